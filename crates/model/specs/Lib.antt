@@ -1,0 +1,10 @@
+pub mod Mask
+pub mod Sheet
+pub mod Compose
+pub mod Choice
+pub mod RunGraph
+pub mod Computed
+pub mod Book
+pub mod Calls
+pub mod Numbers
+pub mod Demands

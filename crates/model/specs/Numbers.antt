@@ -1,0 +1,46 @@
+-- 01, "Who causes which refusal": the number of each refusal, and what each answer says in the words of 01.
+use Prim.Native.Nat.{ℕ}
+use Rattle.model.specs.declared.Refusal.{Refusal}
+use Rattle.model.specs.declared.Refusal.the-variants.{SheetTooShort, WrongMark, BadArchitecture, BadProcess, NoOwnerOrTooMany, BadAutomaton, BadEdge, BookBufferTooShort, AnnotationBufferTooShort, BadBook, BadEntry, NoSuchProcess}
+use Rattle.model.specs.declared.Finding.{Finding}
+use Rattle.model.specs.declared.Finding.the-variants.{Yes, No}
+use Rattle.model.specs.declared.Verdict.{Verdict}
+use Rattle.model.specs.declared.Reply.{Reply}
+use Rattle.model.specs.declared.Outcome.{Outcome}
+
+-- a refusal gives its number alone
+abbrev pub number : Refusal → ℕ
+number SheetTooShort = 1
+number WrongMark = 2
+number BadArchitecture = 3
+number BadProcess = 4
+number NoOwnerOrTooMany = 5
+number BadAutomaton = 6
+number BadEdge = 7
+number BookBufferTooShort = 8
+number AnnotationBufferTooShort = 9
+number BadBook = 10
+number BadEntry = 11
+number NoSuchProcess = 12
+
+-- ---- what a C caller gets: 0 for the good answer, 256 for the other finding, otherwise the refusal's number
+-- proper, written, read
+abbrev pub replyCode : Reply → ℕ
+replyCode (Reply.Refused r) = number r
+replyCode Reply.Done = 0
+
+-- a book judged: yes or no; a book annotated: annotated or `loop`
+abbrev pub findingCode : Finding → ℕ
+findingCode Yes = 0
+findingCode No = 256
+
+-- a refusal number or one of the two findings
+abbrev pub verdictCode : Verdict → ℕ
+verdictCode (Verdict.Refused r) = number r
+verdictCode (Verdict.Found f) = findingCode f
+
+-- find: tables or `none`
+abbrev pub outcomeCode : Outcome → ℕ
+outcomeCode (Outcome.Refused r) = number r
+outcomeCode Outcome.Tables = 0
+outcomeCode Outcome.Nothing = 256

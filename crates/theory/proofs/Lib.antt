@@ -1,0 +1,12 @@
+pub mod Bools
+pub mod ListLaws
+pub mod Paths
+pub mod Overflow
+pub mod Closed
+pub mod Covering
+pub mod AnnotationLaws
+pub mod ValidLaws
+pub mod BitLaws
+pub mod SetLaws
+pub mod WalkLaws
+pub mod LoopLaws

@@ -1,0 +1,193 @@
+-- Lists without repeats, the pigeonhole principle, and the laws of the functions on lists.
+use mathlib.Core.Path.{_≡_, refl, sym, ap, _∙_, subst}
+use mathlib.Core.Bool.{Bool, true, false, _&&_, _||_, or-true, true≢false}
+use mathlib.Core.Logic.{_⊎_, inl, inr, ⊎-elim, _↔_}
+use mathlib.Core.List.{List, [], _∷_, map, List·Memᴰ, List·Memᴰ·head, List·Memᴰ·tail, List·Memᴰ·not-nil, List·Memᴰ·cases-cons}
+use Prim.Native.Nat.{ℕ, zero, suc, _+_, _≤_, _<_, max}
+use native.Mathlib.Omega.{arith}
+use native.Mathlib.Decide.{ℕ-discrete, decLe}
+use lib.Dec.{eqb}
+use lib.ListN.{length, getD}
+use borrow.Author.Tests.{eqb-true, eq-eqb}
+use Rattle.theory.proofs.Bools.{and-is}
+use Rattle.theory.specs.Lists.{below, one, put, keep, count, member, tab, greatest, all, same}
+
+pub data Distinct : List ℕ → Type 0 where
+  none : Distinct []
+  one-more : {x : ℕ} {xs : List ℕ} → (List·Memᴰ x xs → ⊥) → Distinct xs → Distinct (x ∷ xs)
+
+abbrev pub Subset : List ℕ → List ℕ → Type 0
+Subset xs ys = (x : ℕ) → List·Memᴰ x xs → List·Memᴰ x ys
+
+-- ys without the place where x stands
+remove : {x : ℕ} {ys : List ℕ} → List·Memᴰ x ys → List ℕ
+remove {ys = y ∷ ys} (List·Memᴰ·head e) = ys
+remove {ys = y ∷ ys} (List·Memᴰ·tail m) = y ∷ remove m
+
+remove-length : {x : ℕ} {ys : List ℕ} (m : List·Memᴰ x ys) → length ys ≡ suc (length (remove m))
+unfolding remove
+remove-length (List·Memᴰ·head e) = refl
+remove-length (List·Memᴰ·tail m) = ap suc (remove-length m)
+
+remove-keeps : {x z : ℕ} {ys : List ℕ} (m : List·Memᴰ x ys) → (z ≡ x → ⊥) → List·Memᴰ z ys → List·Memᴰ z (remove m)
+unfolding remove
+remove-keeps (List·Memᴰ·head e) d (List·Memᴰ·head q) = absurd (d (q ∙ sym e))
+remove-keeps (List·Memᴰ·head e) d (List·Memᴰ·tail i) = i
+remove-keeps (List·Memᴰ·tail m) d (List·Memᴰ·head q) = List·Memᴰ·head q
+remove-keeps (List·Memᴰ·tail m) d (List·Memᴰ·tail i) = List·Memᴰ·tail (remove-keeps m d i)
+
+-- the pigeonhole principle
+pub pigeonhole : {xs : List ℕ} (ys : List ℕ) → Distinct xs → Subset xs ys → length xs ≤ length ys
+pigeonhole ys none s = omega arith
+pigeonhole ys (one-more {x = x} {xs = xs} new d) s =
+    let m : List·Memᴰ x ys = s x (List·Memᴰ·head refl) in
+    let h : length xs ≤ length (remove m) = pigeonhole (remove m) d (λ z i. remove-keeps m (λ e. new (subst (λ (y : ℕ). List·Memᴰ y xs) e i)) (s z (List·Memᴰ·tail i))) in
+    omega (arith, remove-length m)
+
+pub member? : (x : ℕ) (xs : List ℕ) → Dec (List·Memᴰ x xs)
+member? x [] = no List·Memᴰ·not-nil
+member? x (y ∷ ys) = by (ℕ-discrete x y) (member? x ys)
+  where
+    by : Dec (x ≡ y) → Dec (List·Memᴰ x ys) → Dec (List·Memᴰ x (y ∷ ys))
+    by (yes e) r = yes (List·Memᴰ·head e)
+    by (no d) (yes m) = yes (List·Memᴰ·tail m)
+    by (no d) (no o) = no (λ i. ⊎-elim d o (List·Memᴰ·cases-cons i))
+
+pub distinct-tail : {x : ℕ} {xs : List ℕ} → Distinct (x ∷ xs) → Distinct xs
+distinct-tail (one-more new d) = d
+
+pub below-length : (n : ℕ) → length (below n) ≡ n
+unfolding below
+below-length zero = refl
+below-length (suc n) = ap suc (below-length n)
+
+pub below-has : (n x : ℕ) → x < n → List·Memᴰ x (below n)
+unfolding below
+below-has zero x l = absurd (omega arith)
+below-has (suc n) x l = by (ℕ-discrete x n) (λ h. below-has n x h)
+  where
+    by : Dec (x ≡ n) → (x < n → List·Memᴰ x (below n)) → List·Memᴰ x (n ∷ below n)
+    by (yes e) ih = List·Memᴰ·head e
+    by (no d) ih = List·Memᴰ·tail (ih (omega arith))
+
+put-length : (b : Bool) (x : ℕ) (xs : List ℕ) → length (put b x xs) ≡ one b + length xs
+unfolding put one
+put-length true x xs = omega arith
+put-length false x xs = omega arith
+
+pub keep-length : (p : ℕ → Bool) (x : ℕ) (xs : List ℕ) → length (keep p (x ∷ xs)) ≡ one (p x) + length (keep p xs)
+unfolding keep
+keep-length p x xs = put-length (p x) x (keep p xs)
+
+pub keep-count : (p : ℕ → Bool) (n : ℕ) → length (keep p (below n)) ≡ count p n
+unfolding keep below count
+keep-count p zero = refl
+keep-count p (suc n) = put-length (p n) n (keep p (below n)) ∙ ap (λ (k : ℕ). one (p n) + k) (keep-count p n)
+
+pub keep-sound : (p : ℕ → Bool) (x : ℕ) (xs : List ℕ) → List·Memᴰ x (keep p xs) → List·Memᴰ x xs × (p x ≡ true)
+unfolding keep
+keep-sound p x [] m = absurd (List·Memᴰ·not-nil m)
+keep-sound p x (y ∷ ys) m = by (p y) refl m (λ i. keep-sound p x ys i)
+  where
+    by : (b : Bool) → p y ≡ b → List·Memᴰ x (put b y (keep p ys)) → (List·Memᴰ x (keep p ys) → List·Memᴰ x ys × (p x ≡ true)) → List·Memᴰ x (y ∷ ys) × (p x ≡ true)
+    by false e i ih = (List·Memᴰ·tail (ih i .0), ih i .1)
+    by true e (List·Memᴰ·head q) ih = (List·Memᴰ·head q, ap p q ∙ e)
+    by true e (List·Memᴰ·tail i) ih = (List·Memᴰ·tail (ih i .0), ih i .1)
+
+pub keep-complete : (p : ℕ → Bool) (x : ℕ) (xs : List ℕ) → List·Memᴰ x xs → p x ≡ true → List·Memᴰ x (keep p xs)
+unfolding keep put
+keep-complete p x (y ∷ ys) (List·Memᴰ·head q) e = rw (sym (ap p q) ∙ e) (List·Memᴰ·head q)
+keep-complete p x (y ∷ ys) (List·Memᴰ·tail m) e = by (p y) (keep-complete p x ys m e)
+  where
+    by : (b : Bool) → List·Memᴰ x (keep p ys) → List·Memᴰ x (put b y (keep p ys))
+    by true i = List·Memᴰ·tail i
+    by false i = i
+
+keep-distinct : (p : ℕ → Bool) {xs : List ℕ} → Distinct xs → Distinct (keep p xs)
+unfolding keep put
+keep-distinct p none = none
+keep-distinct p (one-more {x = x} {xs = xs} new d) = by (p x) (keep-distinct p d)
+  where
+    by : (b : Bool) → Distinct (keep p xs) → Distinct (put b x (keep p xs))
+    by true r = one-more (λ i. new (keep-sound p x xs i .0)) r
+    by false r = r
+
+-- of a list without repeats, no more elements pass a test than there are in a list of all that do
+pub few-pass : (p : ℕ → Bool) {xs : List ℕ} (ys : List ℕ) → Distinct xs → ((x : ℕ) → List·Memᴰ x xs → p x ≡ true → List·Memᴰ x ys) → length (keep p xs) ≤ length ys
+few-pass p {xs} ys d h = pigeonhole ys (keep-distinct p d) (λ x i. let s : List·Memᴰ x xs × (p x ≡ true) = keep-sound p x xs i in h x (s .0) (s .1))
+
+pub below-sound : (n x : ℕ) → List·Memᴰ x (below n) → x < n
+unfolding below
+below-sound zero x m = absurd (List·Memᴰ·not-nil m)
+below-sound (suc n) x (List·Memᴰ·head e) = omega arith
+below-sound (suc n) x (List·Memᴰ·tail m) = omega (arith, below-sound n x m)
+
+pub member-sound : (x : ℕ) (xs : List ℕ) → member x xs ≡ true → List·Memᴰ x xs
+unfolding member
+member-sound x [] e = absurd (true≢false (sym e))
+member-sound x (y ∷ ys) e = by (eqb x y) refl e (λ i. member-sound x ys i)
+  where
+    by : (b : Bool) → eqb x y ≡ b → (b || member x ys) ≡ true → (member x ys ≡ true → List·Memᴰ x ys) → List·Memᴰ x (y ∷ ys)
+    by true q i ih = List·Memᴰ·head (eqb-true x y q)
+    by false q i ih = List·Memᴰ·tail (ih i)
+
+pub member-complete : (x : ℕ) (xs : List ℕ) → List·Memᴰ x xs → member x xs ≡ true
+unfolding member
+member-complete x (y ∷ ys) (List·Memᴰ·head e) = rw (eq-eqb x y e)
+member-complete x (y ∷ ys) (List·Memᴰ·tail m) = rw (member-complete x ys m) (or-true (eqb x y))
+
+tab-from : (h : ℕ → ℕ) (n i v d : ℕ) → v < n → getD (tab h n i) v d ≡ h (i + v)
+unfolding tab
+tab-from h zero i v d l = absurd (omega arith)
+tab-from h (suc n) i zero d l = ap h (omega arith)
+tab-from h (suc n) i (suc v) d l = tab-from h n (suc i) v d (omega arith) ∙ ap h (omega arith)
+
+pub tab-at : (h : ℕ → ℕ) (n v d : ℕ) → v < n → getD (tab h n 0) v d ≡ h v
+tab-at h n v d l = tab-from h n 0 v d l ∙ ap h (omega arith)
+
+pub map-at : (h : ℕ → ℕ) (xs : List ℕ) (v d : ℕ) → getD (map h xs) v (h d) ≡ h (getD xs v d)
+map-at h [] v d = refl
+map-at h (x ∷ xs) zero d = refl
+map-at h (x ∷ xs) (suc v) d = map-at h xs v d
+
+pub max-cases : (a b c : ℕ) → max a b ≡ c → (a ≡ c) ⊎ (b ≡ c)
+max-cases a b c e = by (decLe a b)
+  where
+    by : Dec (a ≤ b) → (a ≡ c) ⊎ (b ≡ c)
+    by (yes l) = inr (omega arith)
+    by (no l) = inl (omega arith)
+
+pub greatest-attained : (h : ℕ → ℕ) (xs : List ℕ) (k : ℕ) → greatest h xs ≡ suc k → (x : ℕ) × List·Memᴰ x xs × (h x ≡ suc k)
+unfolding greatest
+greatest-attained h [] k e = absurd (omega arith)
+greatest-attained h (x ∷ xs) k e = by (max-cases (h x) (greatest h xs) (suc k) e) (λ i. greatest-attained h xs k i)
+  where
+    by : (h x ≡ suc k) ⊎ (greatest h xs ≡ suc k) → (greatest h xs ≡ suc k → (y : ℕ) × List·Memᴰ y xs × (h y ≡ suc k)) → (y : ℕ) × List·Memᴰ y (x ∷ xs) × (h y ≡ suc k)
+    by (inl q) ih = (x, List·Memᴰ·head refl, q)
+    by (inr q) ih = (ih q .0, List·Memᴰ·tail (ih q .1), ih q .2)
+
+pub greatest-above : (h : ℕ → ℕ) (x : ℕ) (xs : List ℕ) → List·Memᴰ x xs → h x ≤ greatest h xs
+unfolding greatest
+greatest-above h x (y ∷ ys) (List·Memᴰ·head e) = omega (arith, ap h e)
+greatest-above h x (y ∷ ys) (List·Memᴰ·tail m) = omega (arith, greatest-above h x ys m)
+
+pub all-is : (p : ℕ → Bool) (xs : List ℕ) → (all p xs ≡ true) ↔ ((x : ℕ) → List·Memᴰ x xs → p x ≡ true)
+unfolding all
+all-is p [] = (λ e x m. absurd (List·Memᴰ·not-nil m), λ h. refl)
+all-is p (y ∷ ys) = by (all-is p ys)
+  where
+    by : (all p ys ≡ true) ↔ ((x : ℕ) → List·Memᴰ x ys → p x ≡ true) → ((p y && all p ys) ≡ true) ↔ ((x : ℕ) → List·Memᴰ x (y ∷ ys) → p x ≡ true)
+    by ih = (
+      λ e x m. ⊎-elim (λ (q : x ≡ y). ap p q ∙ and-is (p y) (all p ys) .0 e .0) (λ i. ih .0 (and-is (p y) (all p ys) .0 e .1) x i) (List·Memᴰ·cases-cons m),
+      λ h. and-is (p y) (all p ys) .1 (h y (List·Memᴰ·head refl), ih .1 (λ x m. h x (List·Memᴰ·tail m))),
+    )
+
+pub same-sound : (xs ys : List ℕ) → same xs ys ≡ true → xs ≡ ys
+unfolding same
+same-sound [] [] e = refl
+same-sound [] (y ∷ ys) e = absurd (true≢false (sym e))
+same-sound (x ∷ xs) [] e = absurd (true≢false (sym e))
+same-sound (x ∷ xs) (y ∷ ys) e = by (and-is (eqb x y) (same xs ys) .0 e) (λ i. same-sound xs ys i)
+  where
+    by : (eqb x y ≡ true) × (same xs ys ≡ true) → (same xs ys ≡ true → xs ≡ ys) → x ∷ xs ≡ y ∷ ys
+    by h ih = let p : x ≡ y = eqb-true x y (h .0) in let q : xs ≡ ys = ih (h .1) in cc

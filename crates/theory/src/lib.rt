@@ -1,0 +1,1 @@
+// Run graphs in the abstract: a library of definitions (specs/) and theorems (proofs/), with no code.
