@@ -12,7 +12,7 @@ use Rattle.model.specs.declared.Refusal.{Refusal}
 use Rattle.model.specs.declared.Refusal.the-variants.{SheetTooShort, WrongMark, BadArchitecture, BadProcess, NoOwnerOrTooMany, BadAutomaton, BadEdge}
 use Rattle.theory.specs.Lists.{all}
 use Rattle.model.specs.Mask.{if, beyond, count, from}
-use Rattle.model.specs.Sheet.{Process, Edge, Sheet, Reading, refused, proper, refuse_when_else_, _then_, byte, short, marked, EN, ED, AU, PR, AR, arFault, prFault, owned, composedStates, allFault, auFault, edFault, processAt, edgeAt, readEnd, readEdge, readEdges, readAutomaton, readProcess, readProcesses, readSheet}
+use Rattle.model.specs.Sheet.{Process, Edge, Sheet, Reading, refused, proper, refuse_when_else_, _then_, byte, short, marked, EN, ED, AU, PR, AR, arFault, fieldFault, prFault, owned, composedStates, allFault, auFault, edFault, processAt, edgeAt, readEnd, readEdge, readEdges, readAutomaton, readProcess, readProcesses, readSheet}
 
 -- ---- the first fault in order
 pub passes : {A : Type 0} (r : Refusal) (t : Bool) (k : Reading A) {a : A} → refuse_when_else_ r t k ≡ proper a → (t ≡ false) × (k ≡ proper a)
@@ -84,23 +84,26 @@ good-edge variables states e f =
       off-known = below-bit _ _ (h₂ .1);
     }
 
-good-process : (variables environment : ℕ) (ps : List Process) (p : Process) → prFault variables environment ps p ≡ false → GoodProcess variables p
-unfolding prFault
-good-process variables environment ps p f =
+pub good-fields : (variables environment : ℕ) (p : Process) → fieldFault variables environment p ≡ false → GoodProcess variables p
+unfolding fieldFault
+good-fields variables environment p f =
     let h₁ = or-false _ _ f in
     let h₂ = or-false _ _ (h₁ .0) in
     let h₃ = or-false _ _ (h₂ .0) in
     let h₄ = or-false _ _ (h₃ .0) in
     let h₅ = or-false _ _ (h₄ .0) in
     let h₆ = or-false _ _ (h₅ .0) in
-    let h₇ = or-false _ _ (h₆ .0) in
     record {
-      inputs-known = below-bit _ _ (h₇ .0);
-      outputs-known = below-bit _ _ (h₇ .1);
-      few-inputs = ltb-false _ _ (h₅ .1);
-      some-state = let n : ¬ (p .bound ≡ 0) = eqb-false _ _ (h₃ .1) in omega arith;
-      few-states = ltb-false _ _ (h₂ .1);
+      inputs-known = below-bit _ _ (h₆ .0);
+      outputs-known = below-bit _ _ (h₆ .1);
+      few-inputs = ltb-false _ _ (h₄ .1);
+      some-state = let n : ¬ (p .bound ≡ 0) = eqb-false _ _ (h₂ .1) in omega arith;
+      few-states = ltb-false _ _ (h₁ .1);
     }
+
+good-process : (variables environment : ℕ) (ps : List Process) (p : Process) → prFault variables environment ps p ≡ false → GoodProcess variables p
+unfolding prFault
+good-process variables environment ps p f = good-fields variables environment p (or-false _ _ f .0)
 
 cons-good : (variables states : ℕ) {e : Edge} {es : List Edge} → GoodEdge variables states e → GoodEdges variables states es → GoodEdges variables states (e ∷ es)
 cons-good variables states {e} {es} g h x m =
@@ -116,30 +119,39 @@ snoc-good variables ps p h g x m =
 same-proper : {A : Type 0} (x y : A) → proper x ≡ proper y → x ≡ y
 same-proper x y e = cc
 
-end-empty : (b : List ℕ) (i : ℕ) (es : List Edge) → readEnd b i ≡ proper es → es ≡ []
+-- EN is the last: no byte stands behind it
+end-read : (b : List ℕ) (i : ℕ) (es : List Edge) → readEnd b i ≡ proper es → (es ≡ []) × (length b ≤ i + 2)
 unfolding readEnd
-end-empty b i es e =
+end-read b i es e =
     let h₁ = passes SheetTooShort (short b i 2) _ e in
     let h₂ = passes WrongMark (not (marked b i EN)) _ (h₁ .1) in
     let h₃ = passes WrongMark (ltb (i + 2) (length b)) _ (h₂ .1) in
-    sym (same-proper [] es (h₃ .1))
+    (sym (same-proper [] es (h₃ .1)), ltb-false _ _ (h₃ .0))
 
-edges-good : (variables states k : ℕ) (b : List ℕ) (i : ℕ) (es : List Edge) → readEdges variables states k b i ≡ proper es → GoodEdges variables states es
+-- what EN alone says, where k edges of 6 bytes may stand
+no-edges : (variables states k : ℕ) (b : List ℕ) (i : ℕ) (es : List Edge) → readEnd b i ≡ proper es → GoodEdges variables states es × (length b ≤ i + 6 * k + 2)
+no-edges variables states k b i es e =
+    let h = end-read b i es e in
+    (subst (GoodEdges variables states) (sym (h .0)) (nil-good variables states), omega arith)
+
+-- at most k edges of 6 bytes, then EN
+edges-read : (variables states k : ℕ) (b : List ℕ) (i : ℕ) (es : List Edge) → readEdges variables states k b i ≡ proper es → GoodEdges variables states es × (length b ≤ i + 6 * k + 2)
 unfolding readEdges readEdge
-edges-good variables states zero b i es e = subst (GoodEdges variables states) (sym (end-empty b i es e)) (nil-good variables states)
-edges-good variables states (suc k) b i es e =
-    by (λ es e. edges-good variables states k b (i + 6) es e) (if-cases (marked b i ED) (readEdge variables states b i (readEdges variables states k b (i + 6))) (readEnd b i) e)
+edges-read variables states zero b i es e = no-edges variables states zero b i es e
+edges-read variables states (suc k) b i es e =
+    by (λ es e. edges-read variables states k b (i + 6) es e) (if-cases (marked b i ED) (readEdge variables states b i (readEdges variables states k b (i + 6))) (readEnd b i) e)
   where
-    by : ((es : List Edge) → readEdges variables states k b (i + 6) ≡ proper es → GoodEdges variables states es)
-        → (readEdge variables states b i (readEdges variables states k b (i + 6)) ≡ proper es) ⊎ (readEnd b i ≡ proper es) → GoodEdges variables states es
-    by ih (inr q) = subst (GoodEdges variables states) (sym (end-empty b i es q)) (nil-good variables states)
+    by : ((es : List Edge) → readEdges variables states k b (i + 6) ≡ proper es → GoodEdges variables states es × (length b ≤ i + 6 + 6 * k + 2))
+        → (readEdge variables states b i (readEdges variables states k b (i + 6)) ≡ proper es) ⊎ (readEnd b i ≡ proper es) → GoodEdges variables states es × (length b ≤ i + 6 * suc k + 2)
+    by ih (inr q) = no-edges variables states (suc k) b i es q
     by ih (inl q) =
         let h₁ = passes SheetTooShort (short b i 6) _ q in
         let h₂ = passes BadEdge (edFault variables states (edgeAt b i)) _ (h₁ .1) in
         let h₃ = goes-on (readEdges variables states k b (i + 6)) (λ es. proper (edgeAt b i ∷ es)) (h₂ .1) in
-        subst (GoodEdges variables states) (same-proper (edgeAt b i ∷ h₃ .0) es (h₃ .2)) (cons-good variables states (good-edge variables states (edgeAt b i) (h₂ .0)) (ih (h₃ .0) (h₃ .1)))
+        let rest = ih (h₃ .0) (h₃ .1) in
+        (subst (GoodEdges variables states) (same-proper (edgeAt b i ∷ h₃ .0) es (h₃ .2)) (cons-good variables states (good-edge variables states (edgeAt b i) (h₂ .0)) (rest .0)), omega arith)
 
-good-automaton : (states initial rejecting : ℕ) → auFault states initial rejecting ≡ false → (states ≤ 16) × (initial < states) × (rejecting < 2 ^ states)
+pub good-automaton : (states initial rejecting : ℕ) → auFault states initial rejecting ≡ false → (states ≤ 16) × (initial < states) × (rejecting < 2 ^ states)
 unfolding auFault
 good-automaton states initial rejecting f =
     let h₁ = or-false _ _ f in
@@ -151,7 +163,7 @@ good-all : (variables environment : ℕ) (ps : List Process) → allFault variab
 unfolding allFault
 good-all variables environment ps f = ltb-false _ _ (or-false (not (all (owned ps) (from (variables - environment) environment))) _ f .1)
 
-good-architecture : (variables environment root : ℕ) → arFault variables environment root ≡ false → (variables ≤ 8) × (environment ≤ 4) × (root < 2 ^ environment)
+pub good-architecture : (variables environment root : ℕ) → arFault variables environment root ≡ false → (variables ≤ 8) × (environment ≤ 4) × (root < 2 ^ environment)
 unfolding arFault
 good-architecture variables environment root f =
     let h₁ = or-false _ _ f in
@@ -160,9 +172,10 @@ good-architecture variables environment root f =
     (ltb-false _ _ (h₃ .0), ltb-false _ _ (h₃ .1), below-bit _ _ (h₁ .1))
 
 module _ (variables environment root : ℕ) (v8 : variables ≤ 8) (e4 : environment ≤ 4) (root-in : root < 2 ^ environment) where
-  automaton-good : (ps : List Process) (b : List ℕ) (i : ℕ) (s : Sheet) → GoodProcesses variables ps → length ps ≤ 4 → readAutomaton variables environment root ps b i ≡ proper s → Good s
+  -- 6 bytes of AU, at most 64 edges, then EN
+  automaton-read : (ps : List Process) (b : List ℕ) (i : ℕ) (s : Sheet) → GoodProcesses variables ps → length ps ≤ 4 → readAutomaton variables environment root ps b i ≡ proper s → Good s × (length b ≤ i + 392)
   unfolding readAutomaton
-  automaton-good ps b i s g few e =
+  automaton-read ps b i s g few e =
       let states : ℕ = byte b (i + 2) in
       let initial : ℕ = byte b (i + 3) in
       let rejecting : ℕ = byte b (i + 4) + 256 * byte b (i + 5) in
@@ -173,42 +186,54 @@ module _ (variables environment root : ℕ) (v8 : variables ≤ 8) (e4 : environ
       let h₅ = passes BadAutomaton (auFault states initial rejecting) _ (h₄ .1) in
       let h₆ = goes-on (readEdges variables states 64 b (i + 6)) _ (h₅ .1) in
       let a = good-automaton states initial rejecting (h₅ .0) in
-      subst Good (same-proper _ s (h₆ .2)) record {
-        few-variables = v8;
-        few-environment = e4;
-        root-known = root-in;
-        processes-good = g;
-        few-processes = few;
-        few-composed = good-all variables environment ps (h₄ .0);
-        few-states = a .0;
-        initial-known = a .1;
-        rejecting-known = a .2;
-        edges-good = edges-good variables states 64 b (i + 6) (h₆ .0) (h₆ .1);
-      }
+      let edges = edges-read variables states 64 b (i + 6) (h₆ .0) (h₆ .1) in (
+        subst Good (same-proper _ s (h₆ .2)) record {
+          few-variables = v8;
+          few-environment = e4;
+          root-known = root-in;
+          processes-good = g;
+          few-processes = few;
+          few-composed = good-all variables environment ps (h₄ .0);
+          few-states = a .0;
+          initial-known = a .1;
+          rejecting-known = a .2;
+          edges-good = edges .0;
+        },
+        omega arith,
+      )
 
-  processes-good : (k : ℕ) (ps : List Process) (b : List ℕ) (i : ℕ) (s : Sheet) → GoodProcesses variables ps → length ps + k ≤ 4 → readProcesses variables environment root k ps b i ≡ proper s → Good s
+  -- at most k processes of 5 bytes, then AU
+  processes-read : (k : ℕ) (ps : List Process) (b : List ℕ) (i : ℕ) (s : Sheet) → GoodProcesses variables ps → length ps + k ≤ 4 → readProcesses variables environment root k ps b i ≡ proper s
+      → Good s × (length b ≤ i + 5 * k + 392)
   unfolding readProcesses readProcess
-  processes-good zero ps b i s g few e = automaton-good ps b i s g (omega arith) e
-  processes-good (suc k) ps b i s g few e =
-      by (λ g e. processes-good k (ps ++ (processAt b i ∷ [])) b (i + 5) s g (omega (arith, length-append ps (processAt b i ∷ []))) e)
+  processes-read zero ps b i s g few e = let h = automaton-read ps b i s g (omega arith) e in (h .0, omega arith)
+  processes-read (suc k) ps b i s g few e =
+      by (λ g e. processes-read k (ps ++ (processAt b i ∷ [])) b (i + 5) s g (omega (arith, length-append ps (processAt b i ∷ []))) e)
       (if-cases (marked b i PR) (readProcess variables environment ps b i (readProcesses variables environment root k (ps ++ (processAt b i ∷ [])) b (i + 5))) (readAutomaton variables environment root ps b i) e)
     where
-      by : (GoodProcesses variables (ps ++ (processAt b i ∷ [])) → readProcesses variables environment root k (ps ++ (processAt b i ∷ [])) b (i + 5) ≡ proper s → Good s)
+      by : (GoodProcesses variables (ps ++ (processAt b i ∷ [])) → readProcesses variables environment root k (ps ++ (processAt b i ∷ [])) b (i + 5) ≡ proper s → Good s × (length b ≤ i + 5 + 5 * k + 392))
           → (readProcess variables environment ps b i (readProcesses variables environment root k (ps ++ (processAt b i ∷ [])) b (i + 5)) ≡ proper s)
-          ⊎ (readAutomaton variables environment root ps b i ≡ proper s) → Good s
+          ⊎ (readAutomaton variables environment root ps b i ≡ proper s) → Good s × (length b ≤ i + 5 * suc k + 392)
       by ih (inl q) =
           let h₁ = passes SheetTooShort (short b i 5) _ q in
           let h₂ = passes BadProcess (prFault variables environment ps (processAt b i)) _ (h₁ .1) in
-          ih (snoc-good variables ps (processAt b i) g (good-process variables environment ps (processAt b i) (h₂ .0))) (h₂ .1)
-      by ih (inr q) = automaton-good ps b i s g (omega arith) q
+          let rest = ih (snoc-good variables ps (processAt b i) g (good-process variables environment ps (processAt b i) (h₂ .0))) (h₂ .1) in
+          (rest .0, omega arith)
+      by ih (inr q) = let h = automaton-read ps b i s g (omega arith) q in (h .0, omega arith)
 
--- a sheet that is read is in order
-pub sheet-good : (b : List ℕ) (s : Sheet) → readSheet b ≡ proper s → Good s
+-- a sheet that is read is in order, and has at most 5 + 4 * 5 + 6 + 64 * 6 + 2 bytes
+sheet-read : (b : List ℕ) (s : Sheet) → readSheet b ≡ proper s → Good s × (length b ≤ 417)
 unfolding readSheet
-sheet-good b s e =
+sheet-read b s e =
     let h₁ = passes SheetTooShort (short b 0 2) _ e in
     let h₂ = passes WrongMark (not (marked b 0 AR)) _ (h₁ .1) in
     let h₃ = passes SheetTooShort (short b 0 5) _ (h₂ .1) in
     let h₄ = passes BadArchitecture (arFault (byte b 2) (byte b 3) (byte b 4)) _ (h₃ .1) in
     let a = good-architecture (byte b 2) (byte b 3) (byte b 4) (h₄ .0) in
-    processes-good (byte b 2) (byte b 3) (byte b 4) (a .0) (a .1) (a .2) 4 [] b 5 s (λ x m. absurd (List·Memᴰ·not-nil m)) (omega arith) (h₄ .1)
+    processes-read (byte b 2) (byte b 3) (byte b 4) (a .0) (a .1) (a .2) 4 [] b 5 s (λ x m. absurd (List·Memᴰ·not-nil m)) (omega arith) (h₄ .1)
+
+pub sheet-good : (b : List ℕ) (s : Sheet) → readSheet b ≡ proper s → Good s
+sheet-good b s e = sheet-read b s e .0
+
+pub sheet-short : (b : List ℕ) (s : Sheet) → readSheet b ≡ proper s → length b ≤ 417
+sheet-short b s e = sheet-read b s e .1

@@ -14,7 +14,7 @@ use Rattle.model.proofs.Sheet.{GoodProcess, GoodProcesses, Good}
 use Rattle.model.proofs.Choice.{fits-length, row-length}
 use Rattle.model.proofs.Compose.{times-length}
 
-row-short : (variables : ℕ) (p : Process) → GoodProcess variables p → rowLength p ≤ 17
+pub row-short : (variables : ℕ) (p : Process) → GoodProcess variables p → rowLength p ≤ 17
 unfolding rowLength
 row-short variables p g = omega (arith, pow-mono (g .few-inputs))
 

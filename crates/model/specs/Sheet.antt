@@ -102,12 +102,17 @@ unfolding share
 taken [] p = false
 taken (q ∷ qs) p = share (p .outputs) (q .outputs) || taken qs p
 
--- 4: a bit at or above the variables, an environment variable as output, more than 4 inputs, its own output as input, a bound outside 1 to 4, or an output of an earlier process
-unfoldable pub prFault : ℕ → ℕ → List Process → Process → Bool
-unfolding beyond share count taken
-prFault variables environment earlier p =
+-- a PR field outside the rules: a bit at or above the variables, an environment variable as output, more than 4 inputs, its own output as input, or a bound outside 1 to 4
+unfoldable pub fieldFault : ℕ → ℕ → Process → Bool
+unfolding beyond share count
+fieldFault variables environment p =
     beyond (p .inputs) variables || beyond (p .outputs) variables || share (p .outputs) (2 ^ environment - 1) || ltb 4 (count (p .inputs)) || share (p .inputs) (p .outputs)
-    || eqb (p .bound) 0 || ltb 4 (p .bound) || taken earlier p
+    || eqb (p .bound) 0 || ltb 4 (p .bound)
+
+-- 4: a PR field outside the rules, or an output already taken
+unfoldable pub prFault : ℕ → ℕ → List Process → Process → Bool
+unfolding fieldFault taken
+prFault variables environment earlier p = fieldFault variables environment p || taken earlier p
 
 -- T, the number of composed states: 2 ^ (environment variables) times the product of the bounds
 unfoldable pub composedStates : ℕ → List Process → ℕ

@@ -1,0 +1,27 @@
+-- The three demands of the price list, proved. They speak of the calls' definitions; each public call's contract is an equation with its definition.
+use mathlib.Core.Path.{_≡_}
+use mathlib.Core.List.{List}
+use Prim.Native.Nat.{ℕ}
+use Rattle.model.specs.Sheet.{Sheet, proper, readSheet}
+use Rattle.model.specs.Calls.{findSheet}
+use Rattle.model.specs.Demands.{demand-1, demand-2, demand-3, sizes}
+use Rattle.model.proofs.Refusals.{first-demand}
+use Rattle.model.proofs.Books.{second-demand}
+use Rattle.model.proofs.Found.{third-demand}
+use Rattle.model.proofs.Lengths.{all-sizes}
+
+-- 1: a fault gets exactly its number, and every lent buffer then holds what it held before
+pub exact-refusals : demand-1
+exact-refusals = first-demand
+
+-- 2: judging is the published definition; a written book reads back as the same tables, and each proper book is the only writing of its tables
+pub exact-verdicts : (sheet : List ℕ) (s : Sheet) (is-proper : readSheet sheet ≡ proper s) → demand-2 sheet s is-proper
+exact-verdicts = second-demand
+
+-- 3: `none` exactly when every choice has a reachable rejecting loop; otherwise the first choice without one, with the exact annotation
+pub exact-search : (sheet book ann : List ℕ) (s : Sheet) (not-refused : findSheet sheet book ann ≡ proper s) → demand-3 sheet book ann s not-refused
+exact-search = third-demand
+
+-- the sizes that 01 prints
+pub exact-sizes : (sheet : List ℕ) (s : Sheet) (is-proper : readSheet sheet ≡ proper s) → sizes sheet s is-proper
+exact-sizes = all-sizes

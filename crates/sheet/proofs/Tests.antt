@@ -1,0 +1,49 @@
+-- Tests that passed or failed, and what a reading then is. Assumes nothing.
+use mathlib.Core.Path.{_≡_, refl, sym, ap, _∙_}
+use mathlib.Core.Bool.{Bool, true, false, not}
+use mathlib.Core.List.{List}
+use Prim.Native.Nat.{ℕ, _+_, _-_, _<_, _≤_}
+use native.Mathlib.Omega.{arith}
+use lib.Dec.{eqb}
+use lib.ListN.{length}
+use borrow.Author.Tests.{lt-ltb, le-ltb, eq-eqb}
+use Rattle.model.specs.declared.Refusal.{Refusal}
+use Rattle.model.specs.Sheet.{Sheet, Reading, refused, refuse_when_else_, byte, short, marked}
+use Rattle.sheet.specs.Struct.{Reads}
+use Rattle.sheet.specs.declared.Reading as Struct
+
+-- of a call's result r, which is t: `if !r` was taken, or left
+pub fails : {t r : Bool} → r ≡ t → not r ≡ true → not t ≡ true
+fails e h = ap not (sym e) ∙ h
+
+pub passes : {t r : Bool} → r ≡ t → not r ≡ false → not t ≡ false
+passes e h = ap not (sym e) ∙ h
+
+-- a test that passed refuses, and one that failed goes on
+module _ {A : Type 0} (r : Refusal) {t : Bool} (k : Reading A) where
+  pub stop : t ≡ true → refuse_when_else_ r t k ≡ refused r
+  unfolding refuse_when_else_
+  stop e = ap (λ (x : Bool). refuse_when_else_ r x k) e
+
+  pub go : t ≡ false → refuse_when_else_ r t k ≡ k
+  unfolding refuse_when_else_
+  go e = ap (λ (x : Bool). refuse_when_else_ r x k) e
+
+-- fewer than n bytes are left at i, or not
+module _ (b : List ℕ) (i n : ℕ) where
+  pub too-few : length b - i < n → short b i n ≡ true
+  unfolding short
+  too-few h = lt-ltb (length b) (i + n) (omega arith)
+
+  pub enough : i ≤ length b → n ≤ length b - i → short b i n ≡ false
+  unfolding short
+  enough l h = le-ltb (length b) (i + n) (omega arith)
+
+-- where two bytes are left and the first is the mark's, the second decides
+pub mark-rest : (b m : List ℕ) (i : ℕ) → i ≤ length b → 2 ≤ length b - i → byte b i ≡ byte m 0 → marked b i m ≡ eqb (byte b (i + 1)) (byte m 1)
+unfolding marked
+mark-rest b m i l h e = simp (enough b i 2 l h, eq-eqb _ _ e)
+
+-- a reading that is m is n, where these are the same
+pub reads-as : {r : Struct.Reading} {m n : Reading Sheet} → Reads r m → m ≡ n → Reads r n
+reads-as h e = record { is = h .is ∙ e; sized = h .sized }

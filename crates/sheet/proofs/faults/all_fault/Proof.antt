@@ -1,0 +1,34 @@
+-- `sheet::faults::all_fault` meets its contract: the mask of all outputs shows who has an owner. Assumes nothing.
+use mathlib.Core.Path.{_≡_, sym, ap, _∙_}
+use mathlib.Core.Bool.{Bool, not, _||_}
+use Prim.Native.Nat.{ℕ, _-_}
+use lib.Dec.{ltb}
+use borrow.Author.Needs.{needs}
+use Rattle.theory.specs.Lists.{all}
+use Rattle.model.specs.Mask.{from}
+use Rattle.model.specs.Sheet.{owned, allFault}
+use Rattle.sheet.specs.Struct.{sheetOf}
+use Rattle.sheet.proofs.Tests.{fails, passes}
+use Rattle.sheet.proofs.Masks.{owned-is}
+use Rattle.sheet.proofs.faults.all_fault.Statement.{statement}
+use Rattle.sheet.proofs.faults.all_fault.Tie as tie
+
+all-set-requires : tie.Need-all-set-requires
+all-set-requires c κs = search needs
+
+-- what all_set answers
+owners : (c : tie.After-all-set) → let s = c .before .args .sheet in c .all-set .result ≡ all (owned (sheetOf s .processes)) (from (s .variables - s .environment) (s .environment))
+owners c =
+    let s = c .before .args .sheet in
+    c .all-set .ensures ∙ rw (c .before .pre .1 .0) (owned-is (s .variables - s .environment) (s .environment) (sheetOf s .processes))
+
+returns : tie.Need-returns
+unfolding allFault
+returns c = simp (fails (owners (c .before)) (c .if1 .taken))
+
+returns-2 : tie.Need-returns-2
+unfolding allFault
+returns-2 c = simp (passes (owners (c .before)) (c .if1 .left)) (ap (ltb 256) (c .before .before .pre .1 .1))
+
+pub all-fault-spec : {M : Type 1} → statement M
+all-fault-spec = tie.close (tie.spec all-set-requires returns returns-2)

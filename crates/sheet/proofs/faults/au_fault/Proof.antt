@@ -1,0 +1,28 @@
+-- `sheet::faults::au_fault` meets its contract. Each return goes by the tests that led there. Assumes nothing.
+use borrow.Author.Tests.{lt-ltb, le-ltb, le-leb, lt-leb, eq-eqb, ne-eqb}
+use borrow.Author.Needs.{needs}
+use Rattle.model.specs.Sheet.{auFault}
+use Rattle.sheet.proofs.faults.au_fault.Statement.{statement}
+use Rattle.sheet.proofs.faults.au_fault.Tie as tie
+
+returns : tie.Need-returns
+unfolding auFault
+returns c = simp (eq-eqb _ _ (c .if1 .taken))
+
+returns-2 : tie.Need-returns-2
+unfolding auFault
+returns-2 c = simp (ne-eqb _ _ (c .before .if1 .left), lt-ltb _ _ (c .if2 .taken))
+
+returns-3 : tie.Need-returns-3
+unfolding auFault
+returns-3 c = simp (ne-eqb _ _ (c .before .before .if1 .left), le-ltb _ _ (c .before .if2 .left), le-leb _ _ (c .if3 .taken))
+
+is-beyond-requires : tie.Need-is-beyond-requires
+is-beyond-requires c κs = search needs
+
+returns-4 : tie.Need-returns-4
+unfolding auFault
+returns-4 c = simp (ne-eqb _ _ (c .before .before .before .if1 .left), le-ltb _ _ (c .before .before .if2 .left), lt-leb _ _ (c .before .if3 .left)) (c .is-beyond .ensures)
+
+pub au-fault-spec : {M : Type 1} → statement M
+au-fault-spec = tie.close (tie.spec returns returns-2 returns-3 is-beyond-requires returns-4)

@@ -1,0 +1,14 @@
+-- `sheet::faults::is_beyond` meets its contract. Assumes nothing.
+use borrow.Author.Needs.{needs}
+use Rattle.sheet.proofs.Masks.{shifted-out}
+use Rattle.sheet.proofs.faults.is_beyond.Statement.{statement}
+use Rattle.sheet.proofs.faults.is_beyond.Tie as tie
+
+shr-result : tie.Need-shr-result
+shr-result c = search needs
+
+returns : tie.Need-returns
+returns c = shifted-out (c .args .mask) (c .args .n)
+
+pub is-beyond-spec : {M : Type 1} → statement M
+is-beyond-spec = tie.close (tie.spec shr-result returns)

@@ -1,0 +1,21 @@
+-- `sheet::faults::lowest` meets its contract. Assumes nothing.
+use mathlib.Core.Path.{ap}
+use Prim.Native.Nat.{ℕ, _-_}
+use native.Mathlib.Omega.{arith}
+use lib.Pow.{pow-pos}
+use borrow.Author.Needs.{needs}
+use Rattle.sheet.proofs.Masks.{one-shifted}
+use Rattle.sheet.proofs.faults.lowest.Statement.{statement}
+use Rattle.sheet.proofs.faults.lowest.Tie as tie
+
+shl-result : tie.Need-shl-result
+shl-result c = search needs
+
+sub-result : tie.Need-sub-result
+sub-result c = omega (arith, one-shifted 8 (c .args .n) (omega arith), pow-pos (c .args .n))
+
+returns : tie.Need-returns
+returns c = ap (λ (x : ℕ). x - 1) (one-shifted 8 (c .args .n) (omega arith))
+
+pub lowest-spec : {M : Type 1} → statement M
+lowest-spec = tie.close (tie.spec shl-result sub-result returns)

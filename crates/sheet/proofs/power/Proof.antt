@@ -1,0 +1,15 @@
+-- `sheet::power` meets its contract. Assumes nothing.
+use native.Mathlib.Omega.{arith}
+use borrow.Author.Needs.{needs}
+use Rattle.sheet.proofs.Masks.{one-shifted}
+use Rattle.sheet.proofs.power.Statement.{statement}
+use Rattle.sheet.proofs.power.Tie as tie
+
+shl-result : tie.Need-shl-result
+shl-result c = search needs
+
+returns : tie.Need-returns
+returns c = one-shifted 16 (c .args .n) (omega arith)
+
+pub power-spec : {M : Type 1} → statement M
+power-spec = tie.close (tie.spec shl-result returns)

@@ -1,0 +1,21 @@
+-- `sheet::read_case_a` meets its contract: that the definition reads the 60 bytes as a proper sheet is computed. Assumes nothing.
+use mathlib.Core.Path.{sym, ap, _∙_}
+use borrow.Author.Needs.{needs}
+use Rattle.model.specs.Calls.{reply}
+use Rattle.sheet.specs.CaseA.{caseA, reads-a}
+use Rattle.sheet.proofs.Sheets.{answer-is}
+use Rattle.sheet.proofs.read_case_a.Statement.{statement}
+use Rattle.sheet.proofs.read_case_a.Tie as tie
+
+slice-aggregate-read : tie.Need-slice-aggregate-read
+slice-aggregate-read c = search needs
+
+read-requires : tie.Need-read-requires
+read-requires c κs = search needs
+
+returns : tie.Need-returns
+unfolding caseA
+returns c = let r = c .read .result in sym (answer-is (r .answer) (r .sheet)) ∙ ap reply (c .read .ensures .0) ∙ reads-a
+
+pub read-case-a-spec : {M : Type 1} → statement M
+read-case-a-spec = tie.close (tie.spec slice-aggregate-read read-requires returns)

@@ -1,0 +1,3 @@
+pub mod Struct
+pub mod Grow
+pub mod CaseA

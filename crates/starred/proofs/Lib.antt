@@ -1,0 +1,2 @@
+pub mod CaseA
+pub mod Rows

@@ -1,0 +1,22 @@
+-- Every row of the table holds, by computation.
+use mathlib.Core.Path.{refl}
+use Rattle.model.specs.Calls.{checkOf, findOf, judgeOf, annotateOf}
+use Rattle.starred.specs.Table.{Every, done, _and_, starred}
+use Rattle.starred.proofs.CaseA.{case-A}
+
+pub every-row : Every starred
+unfolding checkOf findOf judgeOf annotateOf
+every-row =
+    -- A
+    case-A and refl
+    -- B and C
+    and refl and refl and refl and refl
+    -- D and E
+    and refl and refl
+    -- F and G
+    and refl and refl and refl
+    -- H
+    and refl and refl and refl
+    -- I
+    and refl and refl and refl
+    and done

@@ -1,0 +1,101 @@
+-- 01, "Bench cases": the starred ones, one table over the definitions of the calls.
+use mathlib.Core.Path.{_≡_}
+use mathlib.Core.List.{List, [], _∷_, _++_}
+use Prim.Native.Nat.{ℕ}
+use lib.ListN.{replicate}
+use Rattle.model.specs.declared.Refusal.the-variants.{SheetTooShort, WrongMark}
+use Rattle.model.specs.declared.Finding.the-variants.{Yes, No}
+use Rattle.model.specs.declared.Verdict.{Verdict}
+use Rattle.model.specs.declared.Reply.{Reply}
+use Rattle.model.specs.declared.Outcome.{Outcome}
+use Rattle.model.specs.RunGraph.{blank}
+use Rattle.model.specs.Calls.{AfterFind, checkOf, findOf, judgeOf, annotateOf}
+use Rattle.starred.specs.Sheets.{sheetA, sheetC, sheetE, edge}
+
+-- a lent buffer of this length: it holds 7
+abbrev pub buffer : ℕ → List ℕ
+buffer n = replicate n 7
+
+-- what is called, with the lengths of the buffers that are lent, and what is expected
+pub data Row : Type 0 where
+  find : (sheet : List ℕ) (book annotation : ℕ) → AfterFind → Row
+  judge : (sheet book annotation : List ℕ) → Verdict → Row
+  annotate : (sheet book : List ℕ) (annotation : ℕ) → Verdict → Row
+  check : (sheet : List ℕ) → Reply → Row
+
+-- the call answers, and leaves in find's buffers, what is expected
+abbrev pub Holds : Row → Type 0
+Holds (find sheet book annotation after) = findOf sheet (buffer book) (buffer annotation) ≡ after
+Holds (judge sheet book annotation verdict) = judgeOf sheet book annotation ≡ verdict
+Holds (annotate sheet book annotation verdict) = annotateOf sheet book (buffer annotation) .answer ≡ verdict
+Holds (check sheet reply) = checkOf sheet ≡ reply
+
+infixr 20 _and_
+-- every row of a table holds
+pub data Every : List Row → Type 0 where
+  done : Every []
+  _and_ : {r : Row} {rs : List Row} → Holds r → Every rs → Every (r ∷ rs)
+
+-- ---- what find leaves
+-- `none`, and buffers of these lengths as they were
+abbrev pub none : ℕ → ℕ → AfterFind
+none book annotation = record { answer = Outcome.Nothing; book = buffer book; annotation = buffer annotation }
+
+-- tables, and buffers with this book and this annotation
+abbrev pub found : List ℕ → List ℕ → AfterFind
+found book annotation = record { answer = Outcome.Tables; book = book; annotation = annotation }
+
+-- ---- the books and annotations of 01
+abbrev pub bookA : List ℕ
+bookA = 0x54 ∷ 0x42 ∷ 0x00 ∷ 0x00 ∷ 0x04 ∷ 0x01 ∷ 0x01 ∷ 0x01 ∷ 0x01 ∷ 0x54 ∷ 0x42 ∷ 0x00 ∷ 0x01 ∷ 0x08 ∷ 0x00 ∷ 0x00 ∷ 0x00 ∷ 0x00 ∷ 0x45 ∷ 0x4E ∷ []
+
+-- 0 eight times; 2 four times, 1 four times; 1 four times, 2 four times; blank eight times
+abbrev pub annotationA : List ℕ
+annotationA = replicate 8 0 ++ replicate 4 2 ++ replicate 4 1 ++ replicate 4 1 ++ replicate 4 2 ++ replicate 8 blank
+
+-- tables that alternate, process 0 granting in state 0 and process 1 in state 1
+abbrev pub bookD : List ℕ
+bookD =
+    0x54 ∷ 0x42 ∷ 0 ∷ 0 ∷ 4 ∷ 1 ∷ 1 ∷ 0x54 ∷ 0x42 ∷ 0 ∷ 1 ∷ 0 ∷ 0 ∷ 0
+    ∷ 0x54 ∷ 0x42 ∷ 1 ∷ 0 ∷ 0 ∷ 1 ∷ 1 ∷ 0x54 ∷ 0x42 ∷ 1 ∷ 1 ∷ 8 ∷ 0 ∷ 0 ∷ 0x45 ∷ 0x4E ∷ []
+
+-- one row, mask 00, next 0
+abbrev pub bookE : List ℕ
+bookE = 0x54 ∷ 0x42 ∷ 0 ∷ 0 ∷ 0 ∷ 0 ∷ 0x45 ∷ 0x4E ∷ []
+
+-- ---- the table
+-- A: the arbiter. The buffers are longer by one than they need to be
+abbrev pub rowA : Row
+rowA = find (sheetA 2) 21 33 (found (bookA ++ buffer 1) (annotationA ++ buffer 1))
+
+-- all rows
+abbrev pub starred : List Row
+starred =
+    -- A: found; its 60 bytes are a proper sheet
+    rowA
+    ∷ check (sheetA 2) Reply.Done
+    -- B: A with bound 1
+    ∷ find (sheetA 1) 11 16 (none 11 16)
+    -- C: bounds 1,1 and 2,1 and 1,2
+    ∷ find (sheetC 1 1) 16 16 (none 16 16)
+    ∷ find (sheetC 2 1) 23 32 (none 23 32)
+    ∷ find (sheetC 1 2) 23 32 (none 23 32)
+    -- D: bounds 2,2: no rejecting loop
+    ∷ annotate (sheetC 2 2) bookD 64 (Verdict.Found Yes)
+    -- E: no variables, bound 1, one automaton state, no edges; annotation 0. The buffers are longer by one again
+    ∷ find (sheetE 1 1 0 []) 9 2 (found (bookE ++ buffer 1) (0 ∷ buffer 1))
+    -- F: E with state 0 rejecting and an edge 0 to 0; so too for bound 4
+    ∷ find (sheetE 1 1 1 (edge 0 0)) 8 1 (none 8 1)
+    ∷ find (sheetE 4 1 1 (edge 0 0)) 26 4 (none 26 4)
+    -- G: E with state 0 rejecting: annotation 0
+    ∷ find (sheetE 1 1 1 []) 8 1 (found bookE (0 ∷ []))
+    -- H: E with states 0, 1 and an edge 0 to 1. Only 0 rejecting: 0, 0 is valid
+    ∷ judge (sheetE 1 2 1 (edge 0 1)) bookE (0 ∷ 0 ∷ []) (Verdict.Found Yes)
+    -- H, only 1 rejecting: 0, 0 is invalid; 0, 1 valid
+    ∷ judge (sheetE 1 2 2 (edge 0 1)) bookE (0 ∷ 0 ∷ []) (Verdict.Found No)
+    ∷ judge (sheetE 1 2 2 (edge 0 1)) bookE (0 ∷ 1 ∷ []) (Verdict.Found Yes)
+    -- I: an empty sheet; the byte 41 alone; A and one more byte
+    ∷ check [] (Reply.Refused SheetTooShort)
+    ∷ check (0x41 ∷ []) (Reply.Refused SheetTooShort)
+    ∷ check (sheetA 2 ++ (0 ∷ [])) (Reply.Refused WrongMark)
+    ∷ []

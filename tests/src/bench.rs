@@ -1,0 +1,92 @@
+//! The specification's bench cases that are sheets.
+
+use crate::sheet::{Edge, Process, Sheet};
+
+/// Case A as the specification lists it.
+pub const CASE_A: [u8; 60] = [
+    0x41, 0x52, 0x04, 0x02, 0x00, 0x50, 0x52, 0x03, 0x0C, 0x02, 0x41, 0x55, 0x04, 0x00, 0x0E, 0x00,
+    0x45, 0x44, 0x00, 0x00, 0x00, 0x00, 0x45, 0x44, 0x00, 0x03, 0x0C, 0x00, 0x45, 0x44, 0x00, 0x01,
+    0x01, 0x00, 0x45, 0x44, 0x00, 0x02, 0x02, 0x00, 0x45, 0x44, 0x01, 0x01, 0x00, 0x04, 0x45, 0x44,
+    0x02, 0x02, 0x00, 0x08, 0x45, 0x44, 0x03, 0x03, 0x00, 0x00, 0x45, 0x4E,
+];
+
+pub fn process(inputs: u8, outputs: u8, bound: u8) -> Process {
+    Process {
+        inputs,
+        outputs,
+        bound,
+    }
+}
+
+pub fn edge(from: u8, to: u8, on: u8, off: u8) -> Edge {
+    Edge { from, to, on, off }
+}
+
+/// The same sheet, field by field.
+pub fn case_a() -> Sheet {
+    Sheet {
+        variables: 4,
+        environment: 2,
+        root: 0,
+        processes: vec![process(0x03, 0x0C, 2)],
+        states: 4,
+        initial: 0,
+        rejecting: 0x000E,
+        edges: vec![
+            edge(0, 0, 0x00, 0x00),
+            edge(0, 3, 0x0C, 0x00),
+            edge(0, 1, 0x01, 0x00),
+            edge(0, 2, 0x02, 0x00),
+            edge(1, 1, 0x00, 0x04),
+            edge(2, 2, 0x00, 0x08),
+            edge(3, 3, 0x00, 0x00),
+        ],
+    }
+}
+
+/// A's automaton over two processes; with bounds 2 and 2 it is case D.
+pub fn case_c(first: u8, second: u8) -> Sheet {
+    Sheet {
+        processes: vec![process(0x01, 0x04, first), process(0x02, 0x08, second)],
+        ..case_a()
+    }
+}
+
+/// No variables, one automaton state and no edges.
+pub fn case_e() -> Sheet {
+    Sheet {
+        processes: vec![process(0, 0, 1)],
+        states: 1,
+        ..Sheet::default()
+    }
+}
+
+/// E with state 0 rejecting and an edge from it to itself.
+pub fn case_f(bound: u8) -> Sheet {
+    Sheet {
+        processes: vec![process(0, 0, bound)],
+        rejecting: 1,
+        edges: vec![edge(0, 0, 0, 0)],
+        ..case_e()
+    }
+}
+
+/// E with states 0 and 1 and an edge between them.
+pub fn case_h(rejecting: u16) -> Sheet {
+    Sheet {
+        states: 2,
+        rejecting,
+        edges: vec![edge(0, 1, 0, 0)],
+        ..case_e()
+    }
+}
+
+/// Four environment variables and bounds 4 and 4: T is 256.
+pub fn case_j() -> Sheet {
+    Sheet {
+        variables: 4,
+        environment: 4,
+        processes: vec![process(0, 0, 4), process(0, 0, 4)],
+        ..case_e()
+    }
+}
