@@ -15,7 +15,7 @@ use Rattle.model.specs.declared.Reply.{Reply}
 use Rattle.model.specs.declared.Outcome.{Outcome}
 use Rattle.model.specs.Numbers.{number}
 use Rattle.model.specs.Mask.{if}
-use Rattle.model.specs.Sheet.{Process, Sheet, Reading, refused, proper, refuse_when_else_, _then_, byte, short, marked, EN, ED, AU, PR, AR, arFault, prFault, allFault, auFault, edFault, processAt, edgeAt, readEnd, readEdge, readEdges, readAutomaton, readProcess, readProcesses, readSheet}
+use Rattle.model.specs.Sheet.{Process, Sheet, Reading, refused, proper, byte, short, marked, EN, ED, AU, PR, AR, arFault, prFault, allFault, auFault, edFault, processAt, edgeAt, readEnd, readEdge, readEdges, readAutomaton, readProcess, readProcesses, readSheet, refuse_when_else_, _then_}
 use Rattle.model.specs.Computed.{loops, firstChoice}
 use Rattle.model.specs.Calls.{Chosen, reply, checkOf, findSheet, findChoice, findIn, findOf, bookAndRoom, annotatedBy, annotated, annotateOf, written, wrote, writeOf, partSheet, cut, partOf, part}
 use Rattle.model.specs.Demands.{demand-1}

@@ -1,6 +1,6 @@
 -- What is known of a proper sheet; and reading a sheet refuses by 1 to 7 only.
 use mathlib.Core.Path.{_≡_, refl, sym, subst}
-use mathlib.Core.Bool.{Bool, true, false, _&&_, _||_, not, true≢false}
+use mathlib.Core.Bool.{Bool, true, false, _||_, not, true≢false}
 use mathlib.Core.Logic.{_⊎_, inl, inr, ⊎-elim}
 use mathlib.Core.List.{List, [], _∷_, _++_, List·Memᴰ, List·Memᴰ·not-nil, List·Memᴰ·cases-cons, List·Memᴰ·append-cases}
 use Prim.Native.Nat.{ℕ, zero, suc, _+_, _*_, _-_, _^_, _≤_, _<_}
@@ -12,7 +12,7 @@ use Rattle.model.specs.declared.Refusal.{Refusal}
 use Rattle.model.specs.declared.Refusal.the-variants.{SheetTooShort, WrongMark, BadArchitecture, BadProcess, NoOwnerOrTooMany, BadAutomaton, BadEdge}
 use Rattle.theory.specs.Lists.{all}
 use Rattle.model.specs.Mask.{if, beyond, count, from}
-use Rattle.model.specs.Sheet.{Process, Edge, Sheet, Reading, refused, proper, refuse_when_else_, _then_, byte, short, marked, EN, ED, AU, PR, AR, arFault, fieldFault, prFault, owned, composedStates, allFault, auFault, edFault, processAt, edgeAt, readEnd, readEdge, readEdges, readAutomaton, readProcess, readProcesses, readSheet}
+use Rattle.model.specs.Sheet.{Process, Edge, Sheet, Reading, refused, proper, byte, short, marked, EN, ED, AU, PR, AR, arFault, fieldFault, prFault, owned, composedStates, allFault, auFault, edFault, processAt, edgeAt, readEnd, readEdge, readEdges, readAutomaton, readProcess, readProcesses, readSheet, refuse_when_else_, _then_}
 
 -- ---- the first fault in order
 pub passes : {A : Type 0} (r : Refusal) (t : Bool) (k : Reading A) {a : A} → refuse_when_else_ r t k ≡ proper a → (t ≡ false) × (k ≡ proper a)

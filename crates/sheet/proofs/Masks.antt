@@ -1,19 +1,18 @@
 -- Laws of masks: a shift that leaves nothing, unions and what they share, and who owns a variable. Assumes nothing.
-use mathlib.Core.Path.{_≡_, refl, sym, ap, ap₂, _∙_}
+use mathlib.Core.Path.{_≡_, refl, sym, ap, _∙_}
 use mathlib.Core.Logic.{_⊎_, inl, inr, ⊎-elim}
 use mathlib.Core.Bool.{Bool, true, false, _&&_, _||_, not}
 use mathlib.Core.List.{List, [], _∷_, _++_}
-use Prim.Native.Nat.{ℕ, zero, suc, _+_, _-_, _*_, _/_, _%_, _^_, _<_, _≤_, min, max}
+use Prim.Native.Nat.{ℕ, zero, suc, _+_, _-_, _*_, _/_, _^_, _<_, _≤_}
 use native.Mathlib.Numerals.{add-one}
-use native.Mathlib.Nat.{one-mul, mul-comm, mul-assoc, mod-eq-of-lt, mod-lt, div-eq-of-lt, div-lt-iff-lt-mul, mul-le-mul, zero-lt-suc, zero-min}
+use native.Mathlib.Nat.{one-mul, mul-comm, mul-assoc, div-eq-of-lt, div-lt-iff-lt-mul, mul-le-mul}
 use native.Mathlib.Omega.{arith}
 use lib.Dec.{eqb, ltb}
-use lib.Arith.{bin-ind}
-use lib.Pow.{pow-pos, pow-lt}
-use lib.Bits.{bitAnd, bitOr, and-step, or-step, and-shr, or-shr, and-mod, or-mod, and-zero-r, or-add-and, and-le-l, and-le-r}
-use borrow.Author.Tests.{ltb-true, ltb-false, le-leb, lt-leb, eq-eqb, ne-eqb, eqb-true}
+use lib.Pow.{pow-pos}
+use lib.Bits.{bitAnd, bitOr, and-zero-r, or-add-and, and-le-r}
+use borrow.Author.Tests.{ltb-true, ltb-false, le-leb, lt-leb, ne-eqb}
 use Rattle.theory.specs.Lists.{all}
-use Rattle.theory.proofs.BitLaws.{bit-or}
+use Rattle.theory.proofs.BitLaws.{bit-or, and-or}
 use Rattle.theory.proofs.WalkLaws.{empty}
 use Rattle.model.specs.Mask.{bit, share, beyond, from}
 use Rattle.model.specs.Sheet.{Process, owned, taken, composedStates}
@@ -37,10 +36,6 @@ shifted-out m n = ⊎-elim
     ∙ sym (le-leb (2 ^ n) m g))
     (less? m (2 ^ n))
 
--- 1 shifted by a few places, at a width w
-pub one-shifted : (w n : ℕ) → n < w → 1 * 2 ^ n % 2 ^ w ≡ 2 ^ n
-one-shifted w n h = rw (one-mul (2 ^ n)) (mod-eq-of-lt (pow-lt h))
-
 pub and-off : {a : Bool} (b : Bool) → a ≡ false → (a && b) ≡ false
 and-off {a} b e = ap (λ (x : Bool). x && b) e
 
@@ -53,30 +48,6 @@ unfolding allSet
 all-step m i e h = let p : e - i ≡ suc (e - (i + 1)) = omega arith in rw (p, add-one i)
 
 -- ---- what a mask shares with a union
-digit : (c d e : ℕ) → c < 2 → d < 2 → e < 2 → min c (bitOr d e) ≡ max (bitAnd c d) (bitAnd c e)
-digit zero d e hc hd he = zero-min (bitOr d e)
-digit (suc zero) zero zero hc hd he = refl
-digit (suc zero) zero (suc zero) hc hd he = refl
-digit (suc zero) (suc zero) zero hc hd he = refl
-digit (suc zero) (suc zero) (suc zero) hc hd he = refl
-digit (suc zero) zero (suc (suc e)) hc hd he = absurd (omega arith)
-digit (suc zero) (suc zero) (suc (suc e)) hc hd he = absurd (omega arith)
-digit (suc zero) (suc (suc d)) e hc hd he = absurd (omega arith)
-digit (suc (suc c)) d e hc hd he = absurd (omega arith)
-
-and-or : (x a b : ℕ) → bitAnd x (bitOr a b) ≡ bitOr (bitAnd x a) (bitAnd x b)
-and-or x =
-    bin-ind (λ (n : ℕ). (a b : ℕ) → bitAnd n (bitOr a b) ≡ bitOr (bitAnd n a) (bitAnd n b)) (λ a b. refl)
-    (λ n ih a b.
-    and-step n (bitOr a b)
-    ∙ ap₂ (λ (u v : ℕ). u * 2 + v)
-    (ap (bitAnd (n / 2)) (or-shr a b 1) ∙ ih (a / 2) (b / 2) ∙ ap₂ bitOr (sym (and-shr n a 1)) (sym (and-shr n b 1)))
-    (ap (min (n % 2)) (or-mod a b 1) ∙ digit (n % 2) (a % 2) (b % 2) (low n) (low a) (low b) ∙ ap₂ max (sym (and-mod n a 1)) (sym (and-mod n b 1)))
-    ∙ sym (or-step (bitAnd n a) (bitAnd n b))) x
-  where
-    low : (n : ℕ) → n % 2 < 2
-    low n = mod-lt n (zero-lt-suc 1)
-
 -- a union is empty where both are
 or-empty : (a b : ℕ) → eqb (bitOr a b) 0 ≡ (eqb a 0 && eqb b 0)
 or-empty zero b = refl

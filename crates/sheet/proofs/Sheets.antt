@@ -5,14 +5,14 @@ use Prim.Native.Nat.{ℕ, zero, suc, _+_, _<_, _≤_}
 use native.Mathlib.Numerals.{add-one}
 use native.Mathlib.Nat.{le-refl}
 use native.Mathlib.Omega.{arith}
-use lib.ListN.{length, getD, set, length-append}
+use lib.ListN.{length, set, length-append}
 use lib.Seq.{getD-set-same, getD-set-other}
 use Rattle.model.specs.declared.Reply.{Reply}
 use Rattle.model.specs.Calls.{reply}
 use Rattle.sheet.specs.declared.Sheet.{Sheet}
 use Rattle.sheet.specs.Struct.{processesOf, edgesOf, sheetOf, readingAs}
 
-processes-length : (n : ℕ) (i o b : List ℕ) → length (processesOf n i o b) ≡ n
+pub processes-length : (n : ℕ) (i o b : List ℕ) → length (processesOf n i o b) ≡ n
 unfolding processesOf
 processes-length zero i o b = refl
 processes-length (suc n) i o b = simp length-append (omega (arith, processes-length n i o b))

@@ -1,5 +1,5 @@
 -- Tests that passed or failed, and what a reading then is. Assumes nothing.
-use mathlib.Core.Path.{_≡_, refl, sym, ap, _∙_}
+use mathlib.Core.Path.{_≡_, sym, ap, _∙_}
 use mathlib.Core.Bool.{Bool, true, false, not}
 use mathlib.Core.List.{List}
 use Prim.Native.Nat.{ℕ, _+_, _-_, _<_, _≤_}
@@ -8,7 +8,7 @@ use lib.Dec.{eqb}
 use lib.ListN.{length}
 use borrow.Author.Tests.{lt-ltb, le-ltb, eq-eqb}
 use Rattle.model.specs.declared.Refusal.{Refusal}
-use Rattle.model.specs.Sheet.{Sheet, Reading, refused, refuse_when_else_, byte, short, marked}
+use Rattle.model.specs.Sheet.{Sheet, Reading, refused, byte, short, marked, refuse_when_else_}
 use Rattle.sheet.specs.Struct.{Reads}
 use Rattle.sheet.specs.declared.Reading as Struct
 

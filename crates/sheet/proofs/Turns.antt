@@ -2,16 +2,16 @@
 -- Assumes nothing.
 use mathlib.Core.Path.{_≡_, refl, sym, ap, _∙_}
 use mathlib.Core.Bool.{Bool, true, false, _||_, not}
-use mathlib.Core.List.{List, [], _∷_, _++_, append-assoc, append-nil}
+use mathlib.Core.List.{List, [], _∷_, append-assoc, append-nil}
 use Prim.Native.Nat.{ℕ, zero, suc, _+_, _-_, _*_, _<_, _≤_}
 use native.Mathlib.Omega.{arith}
 use lib.Dec.{eqb, ltb}
 use lib.Bits.{bitOr}
 use lib.ListN.{length}
 use Rattle.model.specs.declared.Refusal.{Refusal}
-use Rattle.model.specs.declared.Refusal.the-variants.{SheetTooShort, WrongMark, BadArchitecture, BadProcess, NoOwnerOrTooMany, BadAutomaton, BadEdge}
+use Rattle.model.specs.declared.Refusal.the-variants.{SheetTooShort, WrongMark, BadArchitecture, BadProcess, NoOwnerOrTooMany, BadEdge}
 use Rattle.model.specs.Mask.{if, share}
-use Rattle.model.specs.Sheet.{Process, Edge, Reading, refused, proper, refuse_when_else_, _then_, byte, short, marked, AR, PR, AU, ED, EN, processAt, edgeAt, composedStates, arFault, taken, fieldFault, prFault, allFault, auFault, edFault, readEnd, readEdge, readEdges, readAutomaton, readProcess, readProcesses, readSheet}
+use Rattle.model.specs.Sheet.{Process, Edge, Reading, refused, proper, refuse_when_else_, _then_, byte, short, marked, AR, PR, AU, ED, EN, processAt, edgeAt, composedStates, arFault, taken, fieldFault, prFault, allFault, edFault, readEnd, readEdge, readEdges, readAutomaton, readProcess, readProcesses, readSheet}
 use Rattle.sheet.specs.declared.Sheet.{Sheet}
 use Rattle.sheet.specs.Struct.{sheetOf, Sized, outputsOf}
 use Rattle.sheet.specs.Grow.{opened, withProcess, withAutomaton, withEdges, withEdge, behind, endFrom, edgesFrom, statesFrom, automatonFrom, processesFrom}

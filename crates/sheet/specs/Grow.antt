@@ -1,5 +1,4 @@
 -- A sheet as it grows by its records, and what is read of the bytes from a place on, behind what was read before it.
-use mathlib.Core.Bool.{Bool}
 use mathlib.Core.List.{List, [], _∷_, _++_}
 use Prim.Native.Nat.{ℕ, _+_, _*_}
 use Rattle.model.specs.declared.Refusal.the-variants.{BadAutomaton}

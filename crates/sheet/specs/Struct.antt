@@ -11,10 +11,14 @@ use Rattle.sheet.specs.declared.Sheet.{Sheet}
 use Rattle.sheet.specs.declared.Reading.{Reading}
 use Rattle.model.specs.Sheet as model
 
--- the first n entries of three arrays, as processes
+-- entry k of the input masks, the output masks and the bounds, as a process
+abbrev pub processOf : List ℕ → List ℕ → List ℕ → ℕ → model.Process
+processOf i o b k = record { inputs = getD i k 0; outputs = getD o k 0; bound = getD b k 0 }
+
+-- the first n entries, as processes
 unfoldable pub processesOf : ℕ → List ℕ → List ℕ → List ℕ → List model.Process
 processesOf zero i o b = []
-processesOf (suc n) i o b = processesOf n i o b ++ (record { inputs = getD i n 0; outputs = getD o n 0; bound = getD b n 0 } ∷ [])
+processesOf (suc n) i o b = processesOf n i o b ++ (processOf i o b n ∷ [])
 
 -- the first n entries of four arrays, as edges
 unfoldable pub edgesOf : ℕ → List ℕ → List ℕ → List ℕ → List ℕ → List model.Edge

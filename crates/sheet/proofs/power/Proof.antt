@@ -1,7 +1,7 @@
 -- `sheet::power` meets its contract. Assumes nothing.
 use native.Mathlib.Omega.{arith}
 use borrow.Author.Needs.{needs}
-use Rattle.sheet.proofs.Masks.{one-shifted}
+use Rattle.theory.proofs.BitLaws.{one-shifted}
 use Rattle.sheet.proofs.power.Statement.{statement}
 use Rattle.sheet.proofs.power.Tie as tie
 

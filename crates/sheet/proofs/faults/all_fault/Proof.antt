@@ -1,7 +1,6 @@
 -- `sheet::faults::all_fault` meets its contract: the mask of all outputs shows who has an owner. Assumes nothing.
-use mathlib.Core.Path.{_≡_, sym, ap, _∙_}
-use mathlib.Core.Bool.{Bool, not, _||_}
-use Prim.Native.Nat.{ℕ, _-_}
+use mathlib.Core.Path.{_≡_, ap, _∙_}
+use Prim.Native.Nat.{_-_}
 use lib.Dec.{ltb}
 use borrow.Author.Needs.{needs}
 use Rattle.theory.specs.Lists.{all}

@@ -4,7 +4,7 @@ use Prim.Native.Nat.{ℕ, _-_}
 use native.Mathlib.Omega.{arith}
 use lib.Pow.{pow-pos}
 use borrow.Author.Needs.{needs}
-use Rattle.sheet.proofs.Masks.{one-shifted}
+use Rattle.theory.proofs.BitLaws.{one-shifted}
 use Rattle.sheet.proofs.faults.lowest.Statement.{statement}
 use Rattle.sheet.proofs.faults.lowest.Tie as tie
 
