@@ -70,7 +70,7 @@ read-length (entry ∷ ps) [] w = absurd (true≢false (sym w))
 read-length (entry ∷ ps) (y ∷ b) w = ap suc (read-length ps b w)
 
 -- ---- the form has a byte for each entry
-holes-append : (ps qs : List Place) → holes (ps ++ qs) ≡ holes ps + holes qs
+pub holes-append : (ps qs : List Place) → holes (ps ++ qs) ≡ holes ps + holes qs
 unfolding holes
 holes-append [] qs = omega arith
 holes-append (due x ∷ ps) qs = holes-append ps qs

@@ -1,0 +1,21 @@
+-- `book::walk::may_be` meets its contract. Assumes nothing.
+use mathlib.Core.Path.{_≡_, refl, sym, ap, _∙_}
+use native.Mathlib.Omega.{arith}
+use borrow.Author.Tests.{eq-eqb, ne-eqb}
+use borrow.Author.Needs.{needs}
+use Rattle.model.specs.Mask.{if, within}
+use Rattle.model.specs.Choice.{may}
+use Rattle.layout.specs.Codes.{kindOf}
+use Rattle.book.proofs.walk.may_be.Statement.{statement}
+use Rattle.book.proofs.walk.may_be.Tie as tie
+
+returns : tie.Need-returns
+unfolding kindOf if may within
+returns c = simp (eq-eqb _ _ (c .if1 .taken))
+
+returns-2 : tie.Need-returns-2
+unfolding kindOf if may
+returns-2 c = simp (ne-eqb _ _ (c .if1 .left))
+
+pub may-be-spec : {M : Type 1} → statement M
+may-be-spec = tie.close (tie.spec returns returns-2)

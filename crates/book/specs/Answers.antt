@@ -1,0 +1,25 @@
+-- What the calls answer once the sheet is read, and what the structs stand for. These are definitions.
+use mathlib.Core.List.{List}
+use Prim.Native.Nat.{ℕ}
+use Rattle.model.specs.declared.Refusal.the-variants.{BadEntry, BookBufferTooShort}
+use Rattle.model.specs.Sheet.{Sheet, Reading, proper, refuse_when_else_}
+use Rattle.model.specs.Book.{bookOf, entryFault}
+use Rattle.model.specs.Calls.{AfterRead, AfterPart, bookShort}
+use Rattle.book.specs.declared.TablesRead.{TablesRead}
+use Rattle.book.specs.declared.Part.{Part}
+
+-- the book that is due, of a proper sheet
+unfoldable pub writtenBy : Sheet → List ℕ → List ℕ → Reading (List ℕ)
+unfolding refuse_when_else_ entryFault bookShort bookOf
+writtenBy s tables book =
+    refuse BadEntry when entryFault s tables else
+    refuse BookBufferTooShort when bookShort s book else
+    proper (bookOf s tables)
+
+-- what reading handed back
+abbrev pub afterRead : TablesRead → AfterRead
+afterRead r = record { answer = r .answer; tables = r .tables }
+
+-- where the part is
+abbrev pub afterPart : Part → AfterPart
+afterPart p = record { answer = p .answer; start = p .start; end = p .end }

@@ -1,0 +1,131 @@
+// Along the words of a layout: the test of a book, its entries, the test of entries, and the bytes of a book.
+ghost use mathlib.Core.Path.{_≡_};
+ghost use mathlib.Core.Bool.{not};
+ghost use mathlib.Core.List.{_∷_, [], _++_};
+ghost use Prim.Native.Nat.{_+_, _<_, _≤_};
+ghost use lib.ListN.{length, take, drop};
+ghost use Rattle.model.specs.Choice.{may, fits};
+ghost use Rattle.model.specs.Book.{wellFormed, entriesIn, filled};
+ghost use Rattle.model.specs.Calls.{front};
+ghost use Rattle.model.proofs.Book.{holes};
+ghost use Rattle.layout.specs.Codes.{placeOf, kindOf, placesOf, kindsOf};
+
+// The byte is not the one that is due.
+fn differs(place: u16, byte: u8) -> bool
+    ensures { λ r. ⌜ r ≡ not (wellFormed (placeOf place ∷ []) (byte ∷ [])) ⌝ }
+{
+    if place == 0 {
+        return false;
+    }
+    byte as u16 != (place - 1) % 256
+}
+
+// 10: the book is too long or too short, or a byte is not the one that is due.
+pub fn is_malformed(places: &[u16], n: usize, book: &[u8]) -> bool
+    requires { ⌜ n ≤ length (now places) ⌝ }
+    ensures { λ r. ⌜ r ≡ not (wellFormed (placesOf (now (places .entry)) n) (now (book .entry))) ⌝ }
+{
+    if book.len() != n {
+        return true;
+    }
+    let mut k: usize = 0;
+    while k < n {
+        if differs(places[k], book[k]) {
+            return true;
+        }
+        k += 1;
+    }
+    false
+}
+
+// Puts the byte at e if the place is an entry, and answers where the next entry goes.
+fn keep(tables: &mut [u8], e: usize, place: u16, byte: u8) -> usize
+    requires { ⌜ e + length (entriesIn (placeOf place ∷ []) (byte ∷ [])) ≤ length (now tables) ⌝ }
+    ensures { λ r. ⌜ r ≡ e + length (entriesIn (placeOf place ∷ []) (byte ∷ [])) ⌝ }
+    ensures { λ r. ⌜ now (tables .exit) ≡ take e (now (tables .entry)) ++ entriesIn (placeOf place ∷ []) (byte ∷ []) ++ drop r (now (tables .entry)) ⌝ }
+{
+    if place != 0 {
+        return e;
+    }
+    tables[e] = byte;
+    e + 1
+}
+
+// The entries of a book go to the front of the tables.
+pub fn take_entries(tables: &mut [u8], places: &[u16], n: usize, book: &[u8])
+    requires { ⌜ (n ≤ length (now places)) × (n ≤ length (now book)) ⌝ }
+    requires { ⌜ holes (placesOf (now places) n) ≤ length (now tables) ⌝ }
+    ensures { λ _. ⌜ now (tables .exit) ≡ front (entriesIn (placesOf (now (places .entry)) n) (now (book .entry))) (now (tables .entry)) ⌝ }
+{
+    let mut e: usize = 0;
+    let mut k: usize = 0;
+    while k < n {
+        e = keep(tables, e, places[k], book[k]);
+        k += 1;
+    }
+}
+
+// The entry may have this value.
+fn may_be(kind: u16, value: u8) -> bool
+    ensures { λ r. ⌜ r ≡ may (kindOf kind) value ⌝ }
+{
+    let most = kind / 2;
+    if kind % 2 == 0 {
+        return value as u16 & most == value as u16;
+    }
+    (value as u16) < most
+}
+
+// 11: an entry has a value that it may not have.
+pub fn is_misfit(kinds: &[u16], n: usize, tables: &[u8]) -> bool
+    requires { ⌜ (n ≤ length (now kinds)) × (n ≤ length (now tables)) ⌝ }
+    ensures { λ r. ⌜ r ≡ not (fits (kindsOf (now (kinds .entry)) n) (now (tables .entry))) ⌝ }
+{
+    let mut k: usize = 0;
+    while k < n {
+        if !may_be(kinds[k], tables[k]) {
+            return true;
+        }
+        k += 1;
+    }
+    false
+}
+
+// The byte of a book at this place, whose entry, if it is one, is the next.
+fn byte_of(place: u16, tables: &[u8], e: usize) -> u8
+    requires { ⌜ e + holes (placeOf place ∷ []) ≤ length (now tables) ⌝ }
+    ensures { λ r. ⌜ r ∷ [] ≡ filled (placeOf place ∷ []) (drop e (now (tables .entry))) ⌝ }
+{
+    if place == 0 {
+        return tables[e];
+    }
+    ((place - 1) % 256) as u8
+}
+
+// Where the next entry is, behind this place.
+fn entry_after(place: u16, e: usize) -> usize
+    requires { ⌜ e < 65536 ⌝ }
+    ensures { λ r. ⌜ r ≡ e + holes (placeOf place ∷ []) ⌝ }
+{
+    if place == 0 {
+        return e + 1;
+    }
+    e
+}
+
+// The book of these entries goes to the front of the buffer.
+pub fn put_bytes(book: &mut [u8], places: &[u16], n: usize, tables: &[u8])
+    requires { ⌜ (n ≤ length (now places)) × (n ≤ length (now book)) ⌝ }
+    requires { ⌜ holes (placesOf (now places) n) ≤ length (now tables) ⌝ }
+    requires { ⌜ length (now tables) < 65536 ⌝ }
+    ensures { λ _. ⌜ now (book .exit) ≡ front (filled (placesOf (now (places .entry)) n) (now (tables .entry))) (now (book .entry)) ⌝ }
+{
+    let mut e: usize = 0;
+    let mut k: usize = 0;
+    while k < n {
+        let place = places[k];
+        book[k] = byte_of(place, tables, e);
+        e = entry_after(place, e);
+        k += 1;
+    }
+}
