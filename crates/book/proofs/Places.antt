@@ -1,18 +1,28 @@
 -- A book and a choice with one place more: what the loops along the words do at a turn. Assumes nothing.
 use mathlib.Core.Path.{_≡_, refl, sym, ap, ap₂, _∙_}
-use mathlib.Core.Bool.{Bool, true, false, _&&_}
+use mathlib.Core.Bool.{Bool, true, false, _&&_, not, true≢false}
 use mathlib.Core.List.{List, [], _∷_, _++_, map, map-append, append-assoc}
 use Prim.Native.Nat.{ℕ, zero, suc, _+_, _-_, _%_, _<_, _≤_}
 use native.Mathlib.Numerals.{add-one}
 use native.Mathlib.Omega.{arith}
 use lib.Dec.{eqb}
-use lib.ListN.{length, getD, take, drop, set, length-append, length-drop}
+use lib.ListN.{length, getD, take, drop, set, replicate, length-append, length-drop}
 use lib.Seq.{take-suc, take-add, drop-drop, take-at, drop-at, set-at, drop-cons, length-take-le, drop-nil}
-use Rattle.model.specs.Choice.{Entry, may, fits}
-use Rattle.model.specs.Book.{Place, due, entry, wellFormed, entriesIn, filled}
-use Rattle.model.specs.Calls.{front}
+use Rattle.theory.proofs.Bools.{and-is}
+use Rattle.model.specs.declared.Refusal.{Refusal}
+use Rattle.model.specs.declared.Refusal.the-variants.{BadEntry}
+use Rattle.model.specs.declared.Reply.{Reply}
+use Rattle.model.specs.Mask.{if}
+use Rattle.model.specs.Sheet.{Process, Sheet, Reading, refused, proper, refuse_when_else_}
+use Rattle.model.specs.Choice.{Entry, may, fits, entries}
+use Rattle.model.specs.Book.{Place, due, entry, wellFormed, entriesIn, filled, entryFault, recordsLength, partStart}
+use Rattle.model.specs.Calls.{front, tablesOf, gave}
 use Rattle.model.proofs.Book.{holes, holes-append, filled-length}
+use Rattle.sheet.proofs.Sheets.{processes-length}
+use Rattle.machine.specs.declared.Architecture.{Architecture}
+use Rattle.machine.specs.Struct.{sheetWith}
 use Rattle.machine.proofs.Structs.{state-next}
+use Rattle.book.specs.Answers.{fittingBy}
 use Rattle.layout.specs.Codes.{placeOf, placesOf, kindOf, kindsOf}
 
 -- ---- the test of a book, place by place
@@ -38,6 +48,15 @@ wrong-length (due x ∷ ps) (y ∷ b) h = rw (wrong-length ps b (λ e. h (ap suc
     and-false false = refl
 wrong-length (entry ∷ ps) [] h = refl
 wrong-length (entry ∷ ps) (y ∷ b) h = wrong-length ps b (λ e. h (ap suc e))
+
+pub right-length : (ps : List Place) (b : List ℕ) → wellFormed ps b ≡ true → length b ≡ length ps
+unfolding wellFormed
+right-length [] [] w = refl
+right-length [] (y ∷ b) w = absurd (true≢false (sym w))
+right-length (due x ∷ ps) [] w = absurd (true≢false (sym w))
+right-length (due x ∷ ps) (y ∷ b) w = ap suc (right-length ps b (and-is (eqb y x) (wellFormed ps b) .0 w .1))
+right-length (entry ∷ ps) [] w = absurd (true≢false (sym w))
+right-length (entry ∷ ps) (y ∷ b) w = ap suc (right-length ps b w)
 
 -- from place k on, and from the next on
 pub well-turn : (words b : List ℕ) (n k : ℕ) → k < n → n ≤ length words → k < length b
@@ -150,3 +169,40 @@ module _ (words : List ℕ) (k n m : ℕ) (h : k < n) (l : n ≤ length words) (
 pub front-length : (xs old : List ℕ) → length xs ≤ length old → length (front xs old) ≡ length old
 unfolding front
 front-length xs old h = omega (arith, length-append xs (drop (length xs) old), length-drop (length xs) old)
+
+-- what follows the entries is ignored
+pub fits-prefix : (es : List Entry) (c r : List ℕ) → length es ≤ length c → fits es (c ++ r) ≡ fits es c
+unfolding fits
+fits-prefix [] c r h = refl
+fits-prefix (e ∷ es) [] r h = absurd (omega arith)
+fits-prefix (e ∷ es) (v ∷ c) r h = ap (λ (t : Bool). may e v && t) (fits-prefix es c r (omega arith))
+
+-- the test of tables is that of the entries at their front
+pub fitting-is : (s : Sheet) (c : List ℕ) → length (entries s) ≤ length c → fittingBy s (tablesOf c) ≡ gave (refuse BadEntry when entryFault s c else proper c)
+unfolding fittingBy entryFault tablesOf front if gave refuse_when_else_
+fitting-is s c h = rw (fits-prefix (entries s) c (drop (length c) (replicate 272 0)) h) (by (fits (entries s) c))
+  where
+    by : (t : Bool) → if (not t) (gave (refused BadEntry)) (record { answer = Reply.Done; tables = tablesOf c }) ≡ gave (refuse BadEntry when not t else proper c)
+    by true = refl
+    by false = refl
+
+-- ---- parts
+pub part-turn : (p : Process) (ps : List Process) (i k : ℕ) → k < i → partStart (p ∷ ps) (i - k) ≡ recordsLength p + partStart ps (i - (k + 1))
+unfolding partStart
+part-turn p ps i k h = let e : i - k ≡ suc (i - (k + 1)) = omega arith in rw e
+
+-- ---- what reading answered
+pub gave-refused : (k : Reading (List ℕ)) (r : Refusal) → gave k .answer ≡ Reply.Refused r → k ≡ refused r
+unfolding gave
+gave-refused (refused q) r e = let z : q ≡ r = cc in ap (λ (x : Refusal). refused x) z
+gave-refused (proper c) r e = let z : _≡_ {A = ℕ} 0 1 = cc in absurd (omega arith)
+
+pub gave-done : (k : Reading (List ℕ)) → gave k .answer ≡ Reply.Done → (c : List ℕ) × (k ≡ proper c)
+unfolding gave
+gave-done (refused q) e = let z : _≡_ {A = ℕ} 0 1 = cc in absurd (omega arith)
+gave-done (proper c) e = (c, refl)
+
+-- how many processes there are
+pub count-is : (a : Architecture) → length (sheetWith a .processes) ≡ a .processes
+unfolding sheetWith
+count-is a = processes-length (a .processes) (a .inputs) (a .outputs) (a .bounds)

@@ -3,11 +3,11 @@ ghost use mathlib.Core.Path.{_≡_};
 ghost use Prim.Native.Nat.{_+_, _*_, _-_, _≤_, _<_};
 ghost use lib.ListN.{length, take, drop};
 ghost use Rattle.model.specs.Book as model;
-ghost use Rattle.model.specs.Calls.{AfterWrite, AfterRead, AfterPart, wrote, writeOf, gave, readOf, partOf};
-ghost use Rattle.model.specs.Calls as calls;
+ghost use Rattle.model.specs.Sheet.{refused};
+ghost use Rattle.model.specs.Calls.{wrote, gave, cut};
 ghost use Rattle.machine.specs.Struct.{sheetWith, processesIn};
 ghost use Rattle.machine.specs.Struct.{Sized as Whole};
-ghost use Rattle.book.specs.Answers.{afterRead, afterPart, writtenBy};
+ghost use Rattle.book.specs.Answers.{afterRead, afterPart, writtenBy, fittingBy, partBy};
 mod walk;
 
 use machine::Architecture;
@@ -49,4 +49,93 @@ pub fn write_for(a: Architecture, tables: &[u8; 272], book: &mut [u8]) -> Reply
     }
     put_bytes(book, &places, n, tables);
     Reply::Done
+}
+
+// Refused: the tables are zeros.
+fn unread(refusal: Refusal) -> TablesRead
+    ensures { λ r. ⌜ afterRead r ≡ gave (refused refusal) ⌝ }
+{
+    TablesRead {
+        answer: Reply::Refused(refusal),
+        tables: [0; 272],
+    }
+}
+
+// The tables, unless an entry has a value that it may not have.
+fn fitting(a: Architecture, tables: [u8; 272]) -> TablesRead
+    requires { ⌜ Whole a ⌝ }
+    requires { ⌜ length tables ≡ 272 ⌝ }
+    ensures { λ r. ⌜ afterRead r ≡ fittingBy (sheetWith a) tables ⌝ }
+{
+    let mut kinds = [0u16; 272];
+    let entries = layout::fill_kinds(&mut kinds, a);
+    if is_misfit(&kinds, entries, &tables) {
+        return unread(Refusal::BadEntry);
+    }
+    TablesRead {
+        answer: Reply::Done,
+        tables,
+    }
+}
+
+// Of a proper sheet: the tables of the book.
+pub fn read_for(a: Architecture, book: &[u8]) -> TablesRead
+    requires { ⌜ Whole a ⌝ }
+    ensures { λ r. ⌜ afterRead r ≡ gave (model.readBook (sheetWith a) (now (book .entry))) ⌝ }
+{
+    let mut places = [0u16; 338];
+    let n = layout::fill_places(&mut places, a);
+    if is_malformed(&places, n, book) {
+        return unread(Refusal::BadBook);
+    }
+    let mut tables = [0u8; 272];
+    take_entries(&mut tables, &places, n, book);
+    fitting(a, tables)
+}
+
+// Where the records of process i begin.
+fn part_start(a: Architecture, i: usize) -> usize
+    requires { ⌜ Whole a ⌝ }
+    requires { ⌜ i ≤ a .processes ⌝ }
+    ensures { λ r. ⌜ r ≡ model.partStart (processesIn a) i ⌝ }
+{
+    let mut at: usize = 0;
+    let mut k: usize = 0;
+    while k < i {
+        at += a.bound_of(k) * (4 + machine::row_length(a.inputs_of(k)));
+        k += 1;
+    }
+    at
+}
+
+// Refused: the part is empty.
+fn nowhere(refusal: Refusal) -> Part
+    ensures { λ r. ⌜ afterPart r ≡ cut (refused refusal) 0 ⌝ }
+{
+    Part {
+        answer: Reply::Refused(refusal),
+        start: 0,
+        end: 0,
+    }
+}
+
+// Of a proper sheet: where the records of process i are in the book.
+pub fn place_for(a: Architecture, book: &[u8], i: usize) -> Part
+    requires { ⌜ Whole a ⌝ }
+    ensures { λ r. ⌜ afterPart r ≡ cut (partBy (sheetWith a) (now (book .entry)) i) i ⌝ }
+{
+    let n = a.processes;
+    if n <= i {
+        return nowhere(Refusal::NoSuchProcess);
+    }
+    let read = read_for(a, book);
+    let answer = read.answer;
+    match answer {
+        Reply::Refused(refusal) => nowhere(refusal),
+        Reply::Done => Part {
+            answer: Reply::Done,
+            start: part_start(a, i),
+            end: part_start(a, i + 1),
+        },
+    }
 }
