@@ -52,7 +52,7 @@ pub fn write_for(a: Architecture, tables: &[u8; 272], book: &mut [u8]) -> Reply
 }
 
 // Refused: the tables are zeros.
-fn unread(refusal: Refusal) -> TablesRead
+pub fn unread(refusal: Refusal) -> TablesRead
     ensures { λ r. ⌜ afterRead r ≡ gave (refused refusal) ⌝ }
 {
     TablesRead {
@@ -109,7 +109,7 @@ fn part_start(a: Architecture, i: usize) -> usize
 }
 
 // Refused: the part is empty.
-fn nowhere(refusal: Refusal) -> Part
+pub fn nowhere(refusal: Refusal) -> Part
     ensures { λ r. ⌜ afterPart r ≡ cut (refused refusal) 0 ⌝ }
 {
     Part {

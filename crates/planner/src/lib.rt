@@ -1,6 +1,11 @@
 // The public calls. Each takes whatever comes, and its contract says what it answers and what each lent buffer then holds.
 ghost use mathlib.Core.Path.{_≡_};
-ghost use Rattle.model.specs.Calls.{checkOf};
+ghost use Rattle.model.specs.Calls.{checkOf, writeOf, readOf, partOf};
+ghost use Rattle.model.specs.Calls.{part as partIn};
+ghost use Rattle.book.specs.Answers.{afterRead, afterPart};
+use book::Part;
+use book::TablesRead;
+use machine::Architecture;
 use model::Reply;
 
 // A proper sheet, or the refusal of its first fault.
@@ -9,4 +14,60 @@ pub fn check(sheet: &[u8]) -> Reply
 {
     let reading = sheet::read(sheet);
     reading.answer
+}
+
+// Writes the book of these tables at the front of the buffer, or refuses and leaves it.
+pub fn write(sheet: &[u8], tables: &[u8; 272], book: &mut [u8]) -> Reply
+    ensures { λ r. ⌜ r ≡ writeOf (now (sheet .entry)) (now (tables .entry)) (now (book .entry)) .answer ⌝ }
+    ensures { λ _. ⌜ now (book .exit) ≡ writeOf (now (sheet .entry)) (now (tables .entry)) (now (book .entry)) .book ⌝ }
+{
+    let reading = sheet::read(sheet);
+    let answer = reading.answer;
+    match answer {
+        Reply::Refused(refusal) => Reply::Refused(refusal),
+        Reply::Done => {
+            let read = reading.sheet;
+            book::write_for(Architecture::of(read), tables, book)
+        }
+    }
+}
+
+// The tables of a book: its entries in order, and 0 behind them; all zeros where it is refused.
+pub fn read(sheet: &[u8], book: &[u8]) -> TablesRead
+    ensures { λ r. ⌜ afterRead r ≡ readOf (now (sheet .entry)) (now (book .entry)) ⌝ }
+{
+    let reading = sheet::read(sheet);
+    let answer = reading.answer;
+    match answer {
+        Reply::Refused(refusal) => book::unread(refusal),
+        Reply::Done => {
+            let read = reading.sheet;
+            book::read_for(Architecture::of(read), book)
+        }
+    }
+}
+
+// Where the records of a process are in the book.
+pub fn place(sheet: &[u8], book: &[u8], process: usize) -> Part
+    ensures { λ r. ⌜ afterPart r ≡ partOf (now (sheet .entry)) (now (book .entry)) process ⌝ }
+{
+    let reading = sheet::read(sheet);
+    let answer = reading.answer;
+    match answer {
+        Reply::Refused(refusal) => book::nowhere(refusal),
+        Reply::Done => {
+            let read = reading.sheet;
+            book::place_for(Architecture::of(read), book, process)
+        }
+    }
+}
+
+// The records of a process: a part of the book itself, empty where it is refused; `place` says why.
+pub fn part<'a>(sheet: &[u8], book: &'a [u8], process: usize) -> &'a [u8]
+    ensures { λ r. ⌜ now r ≡ partIn (partOf (now (sheet .entry)) (now (book .entry)) process) (now (book .entry)) ⌝ }
+{
+    let place = place(sheet, book, process);
+    let start = place.start;
+    let end = place.end;
+    &book[start..end]
 }

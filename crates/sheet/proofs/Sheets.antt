@@ -1,5 +1,5 @@
 -- Laws of what the struct stands for. Assumes nothing.
-use mathlib.Core.Path.{_≡_, refl}
+use mathlib.Core.Path.{_≡_, refl, sym, ap, _∙_}
 use mathlib.Core.List.{List, [], _∷_, _++_}
 use Prim.Native.Nat.{ℕ, zero, suc, _+_, _<_, _≤_}
 use native.Mathlib.Numerals.{add-one}
@@ -7,10 +7,13 @@ use native.Mathlib.Nat.{le-refl}
 use native.Mathlib.Omega.{arith}
 use lib.ListN.{length, set, length-append}
 use lib.Seq.{getD-set-same, getD-set-other}
+use Rattle.model.specs.declared.Refusal.{Refusal}
 use Rattle.model.specs.declared.Reply.{Reply}
+use Rattle.model.specs.Sheet.{Reading, refused, proper}
 use Rattle.model.specs.Calls.{reply}
 use Rattle.sheet.specs.declared.Sheet.{Sheet}
 use Rattle.sheet.specs.Struct.{processesOf, edgesOf, sheetOf, readingAs}
+use Rattle.model.specs.Sheet as model
 
 pub processes-length : (n : ℕ) (i o b : List ℕ) → length (processesOf n i o b) ≡ n
 unfolding processesOf
@@ -22,6 +25,15 @@ pub answer-is : (a : Reply) (s : Sheet) → reply (readingAs a s) ≡ a
 unfolding reply readingAs
 answer-is Reply.Done s = refl
 answer-is (Reply.Refused r) s = refl
+
+-- what was read, by the answer
+pub read-refused : (m : Reading model.Sheet) (a : Reply) (s : Sheet) (r : Refusal) → readingAs a s ≡ m → a ≡ Reply.Refused r → m ≡ refused r
+unfolding readingAs
+read-refused m a s r e h = sym e ∙ ap (λ (x : Reply). readingAs x s) h
+
+pub read-proper : (m : Reading model.Sheet) (a : Reply) (s : Sheet) → readingAs a s ≡ m → a ≡ Reply.Done → m ≡ proper (sheetOf s)
+unfolding readingAs
+read-proper m a s e h = sym e ∙ ap (λ (x : Reply). readingAs x s) h
 
 -- how many processes were read
 pub process-count : (s : Sheet) → length (sheetOf s .processes) ≡ s .processes

@@ -1,0 +1,33 @@
+-- `planner::part` meets its contract: the part lies within the book. Assumes nothing.
+use mathlib.Core.Path.{sym, ap, subst, _∙_}
+use native.Mathlib.Omega.{arith}
+use borrow.Author.Needs.{needs}
+use Rattle.model.specs.Calls.{AfterPart, part, partOf}
+use Rattle.book.specs.Answers.{afterPart}
+use Rattle.book.proofs.Bounds.{Within, part-within}
+use Rattle.planner.proofs.part.Statement.{statement}
+use Rattle.planner.proofs.part.Tie as tie
+
+place-requires : tie.Need-place-requires
+place-requires c κs = search needs
+
+-- where the part is, within the book
+inside : (c : tie.After-place) → Within (afterPart (c .place .result)) (c .before .before .before .args .book .now)
+inside c = let a = c .before .before .before .args in rw (c .place .ensures) (part-within (a .sheet .now) (a .book .now) (a .process))
+
+sub-result : tie.Need-sub-result
+sub-result c = inside c .0
+
+part-result-start : tie.Need-part-result-start
+part-result-start c = inside c .0
+
+part-result-end : tie.Need-part-result-end
+part-result-end c = inside c .1
+
+returns : tie.Need-returns
+unfolding part
+returns c = ap (λ (p : AfterPart). part p (c .before .before .before .before .args .book .now)) (c .before .place .ensures)
+
+pub part-spec : {M : Type 1} → statement M
+part-spec =
+    tie.close (tie.spec place-requires sub-result part-result-start part-result-end returns)
