@@ -1,8 +1,8 @@
 /* The library's C interface. Link libexport.a (rt staticlib export).
  *
- * Every call takes bytes and buffers of any length. A result is 0 for proper;
- * otherwise it is the number of the refusal (README.md lists them), and every
- * lent buffer then holds what it held before. */
+ * Every call takes bytes and buffers of any length. A result is 0 for proper,
+ * written and read; otherwise it is the number of the refusal (README.md lists
+ * them), and every lent buffer then holds what it held before. */
 #ifndef SOCLETHYME_H
 #define SOCLETHYME_H
 
@@ -15,6 +15,22 @@ extern "C" {
 
 /* 0 for a proper sheet, otherwise the refusal of its first fault, 1 to 7. */
 uint32_t soclethyme_check(const uint8_t *sheet, size_t sheet_len);
+
+/* Writes the book of the tables at the front of `book` and leaves the rest.
+ * `tables` are exactly 272 bytes, a choice's entries in order at the front. */
+uint32_t soclethyme_write(const uint8_t *sheet, size_t sheet_len,
+                          const uint8_t *tables /* 272 */,
+                          uint8_t *book, size_t book_len);
+
+/* Reads a book: its entries to the front of `tables`, 0 in the rest. */
+uint32_t soclethyme_read(const uint8_t *sheet, size_t sheet_len,
+                         const uint8_t *book, size_t book_len,
+                         uint8_t *tables /* 272 */);
+
+/* Where the records of a process are in the book: end * 65536 + start, or the
+ * refusal (a number below 65536). */
+uint32_t soclethyme_part(const uint8_t *sheet, size_t sheet_len,
+                         const uint8_t *book, size_t book_len, size_t process);
 
 #ifdef __cplusplus
 }

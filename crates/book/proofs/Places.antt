@@ -17,13 +17,13 @@ use Rattle.model.specs.Sheet.{Process, Sheet, Reading, refused, proper, refuse_
 use Rattle.model.specs.Choice.{Entry, may, fits, entries}
 use Rattle.model.specs.Book.{Place, due, entry, wellFormed, entriesIn, filled, entryFault, recordsLength, partStart}
 use Rattle.model.specs.Calls.{front, tablesOf, gave}
-use Rattle.model.proofs.Book.{holes, holes-append, filled-length}
+use Rattle.model.proofs.Book.{holes, holes-append}
 use Rattle.sheet.proofs.Sheets.{processes-length}
 use Rattle.machine.specs.declared.Architecture.{Architecture}
 use Rattle.machine.specs.Struct.{sheetWith}
 use Rattle.machine.proofs.Structs.{state-next}
 use Rattle.book.specs.Answers.{fittingBy}
-use Rattle.layout.specs.Codes.{placeOf, placesOf, kindOf, kindsOf}
+use Rattle.layout.specs.Codes.{placeOf, placesOf, kindOf}
 
 -- ---- the test of a book, place by place
 pub and-true : (t : Bool) → (t && true) ≡ t

@@ -8,6 +8,7 @@ ghost use Rattle.model.specs.Calls.{wrote, gave, cut};
 ghost use Rattle.machine.specs.Struct.{sheetWith, processesIn};
 ghost use Rattle.machine.specs.Struct.{Sized as Whole};
 ghost use Rattle.book.specs.Answers.{afterRead, afterPart, writtenBy, fittingBy, partBy};
+
 mod walk;
 
 use machine::Architecture;

@@ -1,7 +1,8 @@
 // The public calls for C and Rust (include/soclethyme.h): an answer is 0 for the good one, 256 for the other finding, otherwise the refusal's number.
 ghost use mathlib.Core.Path.{_≡_};
 ghost use Rattle.model.specs.Numbers.{replyCode};
-ghost use Rattle.model.specs.Calls.{checkOf};
+ghost use Rattle.model.specs.Calls.{checkOf, writeOf, readOf, partOf};
+ghost use Rattle.export.specs.After.{tablesAfter, partCode};
 use model::Reply;
 
 fn reply_code(reply: Reply) -> u32
@@ -18,4 +19,42 @@ pub extern "C" fn soclethyme_check(sheet: &[u8]) -> u32
     ensures { λ r. ⌜ r ≡ replyCode (checkOf (now (sheet .entry))) ⌝ }
 {
     reply_code(planner::check(sheet))
+}
+
+#[no_mangle]
+pub extern "C" fn soclethyme_write(sheet: &[u8], tables: &[u8; 272], book: &mut [u8]) -> u32
+    ensures { λ r. ⌜ r ≡ replyCode (writeOf (now (sheet .entry)) (now (tables .entry)) (now (book .entry)) .answer) ⌝ }
+    ensures { λ _. ⌜ now (book .exit) ≡ writeOf (now (sheet .entry)) (now (tables .entry)) (now (book .entry)) .book ⌝ }
+{
+    reply_code(planner::write(sheet, tables, book))
+}
+
+// A refusal leaves the tables as they were.
+#[no_mangle]
+pub extern "C" fn soclethyme_read(sheet: &[u8], book: &[u8], tables: &mut [u8; 272]) -> u32
+    ensures { λ r. ⌜ r ≡ replyCode (readOf (now (sheet .entry)) (now (book .entry)) .answer) ⌝ }
+    ensures { λ _. ⌜ now (tables .exit) ≡ tablesAfter (readOf (now (sheet .entry)) (now (book .entry))) (now (tables .entry)) ⌝ }
+{
+    let read = planner::read(sheet, book);
+    let answer = read.answer;
+    match answer {
+        Reply::Refused(refusal) => refusal.number(),
+        Reply::Done => {
+            let new = read.tables;
+            *tables = new;
+            0
+        }
+    }
+}
+
+#[no_mangle]
+pub extern "C" fn soclethyme_part(sheet: &[u8], book: &[u8], process: usize) -> u32
+    ensures { λ r. ⌜ r ≡ partCode (partOf (now (sheet .entry)) (now (book .entry)) process) ⌝ }
+{
+    let place = planner::place(sheet, book, process);
+    let answer = place.answer;
+    match answer {
+        Reply::Refused(refusal) => refusal.number(),
+        Reply::Done => place.end as u32 * 65536 + place.start as u32,
+    }
 }

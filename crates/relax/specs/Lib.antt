@@ -1,1 +1,4 @@
 pub mod Tables
+pub mod State
+pub mod Says
+pub mod Rises

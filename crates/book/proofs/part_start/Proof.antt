@@ -63,7 +63,7 @@ loop-less : tie.Need-loop-less Inv-loop μ-loop
 loop-less c = omega (arith, c .before .before .before .loop-test .taken)
 
 loop-again : tie.Need-loop-again Inv-loop μ-loop
-loop-again c = 
+loop-again c =
     let l = c .before .before .before .before .loop in
     let a = c .before .before .before .before .before .args .a in
     let h = c .before .before .before .loop-test .taken in
@@ -73,7 +73,7 @@ loop-again c =
 
 returns : tie.Need-returns Inv-loop μ-loop
 unfolding partStart
-returns c = 
+returns c =
     let l = c .before .loop in
     let z : c .before .before .args .i - l .k ≡ 0 = omega (arith, c .loop-test .left) in
     omega (arith, rw z at (l .inv .1 .1))

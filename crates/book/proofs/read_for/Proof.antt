@@ -59,11 +59,10 @@ few c = let z = c .pre in omega (arith, entries-are (c .args .a), start-few (c .
 
 take-entries-requires : tie.Need-take-entries-requires
 unfolding bookLength
-take-entries-requires c κs = 
-    let n = c .before .before .before .before .before .before .fill-places in
-    (
+take-entries-requires c κs =
+    let n = c .before .before .before .before .before .before .fill-places in (
       (omega (arith, n .kept .0, n .ensures .0 .1), omega (arith, n .ensures .0 .0, long (c .before .before))),
-      omega (arith, ap holes (n .ensures .1), holes-form (sheetWith (c .before .before .before .before .before .before .before .before .before .args .a)), few (c .before .before .before .before .before .before .before .before .before))
+      omega (arith, ap holes (n .ensures .1), holes-form (sheetWith (c .before .before .before .before .before .before .before .before .before .args .a)), few (c .before .before .before .before .before .before .before .before .before)),
     )
 
 fitting-requires : tie.Need-fitting-requires
@@ -71,7 +70,7 @@ fitting-requires c κs = search needs
 
 returns-2 : tie.Need-returns-2
 unfolding readBook tablesOf
-returns-2 c = 
+returns-2 c =
     let a = c .before .before .before .before .before .before .before .before .before .before .before .before .args in
     let s = sheetWith (a .a) in
     let entries-of = entriesIn (form s) (a .book .now) in

@@ -38,7 +38,7 @@ misfit c = c .is-misfit .ensures ∙ ap (λ (es : List Entry). not (fits es (c .
 
 returns : tie.Need-returns
 unfolding wrote writtenBy
-returns c = 
+returns c =
     let a = c .before .before .before .before .before .before .before .before .args in
     let e : writtenBy (sheetWith (a .a)) (a .tables .now) (a .book .now) ≡ refused BadEntry = stop _ _ (sym (misfit (c .before)) ∙ c .if1 .taken) in
     rw e (refl, refl)
@@ -57,7 +57,7 @@ fitting c = go _ _ (sym (misfit (c .before)) ∙ c .if1 .left)
 
 returns-2 : tie.Need-returns-2
 unfolding wrote bookShort
-returns-2 c = 
+returns-2 c =
     let a = c .before .before .before .before .before .before .before .before .before .before .before .before .args in
     let e : writtenBy (sheetWith (a .a)) (a .tables .now) (a .book .now) ≡ refused BookBufferTooShort = fitting (c .before .before .before .before) ∙ stop _ _ (lt-ltb _ _ (rw (c .before .before .fill-places .ensures .0 .0) at (c .if2 .taken))) in
     rw e (refl, refl)
@@ -66,7 +66,7 @@ slice-aggregate-put-bytes : tie.Need-slice-aggregate-put-bytes
 slice-aggregate-put-bytes c = search needs
 
 put-bytes-requires : tie.Need-put-bytes-requires
-put-bytes-requires c κs = 
+put-bytes-requires c κs =
     let n = c .before .before .before .before .before .fill-places in
     let s = sheetWith (c .before .before .before .before .before .before .before .before .before .before .before .before .before .before .before .args .a) in
     let few : holes (placesOf (n .last .0) (n .result)) ≤ 272 = omega (arith, ap holes (n .ensures .1), holes-form s, c .before .before .before .before .before .before .before .before .before .before .before .before .fill-kinds .ensures .0 .0, c .before .before .before .before .before .before .before .before .before .before .before .before .fill-kinds .ensures .0 .1) in
@@ -77,7 +77,7 @@ same-length c = search needs
 
 returns-3 : tie.Need-returns-3
 unfolding wrote bookShort bookOf
-returns-3 c = 
+returns-3 c =
     let a = c .before .before .before .before .before .before .before .before .before .before .before .before .before .before .before .before .before .before .args in
     let s = sheetWith (a .a) in
     let n = c .before .before .before .before .before .before .before .before .fill-places in

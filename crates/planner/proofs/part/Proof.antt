@@ -1,8 +1,7 @@
 -- `planner::part` meets its contract: the part lies within the book. Assumes nothing.
-use mathlib.Core.Path.{sym, ap, subst, _∙_}
-use native.Mathlib.Omega.{arith}
+use mathlib.Core.Path.{ap}
 use borrow.Author.Needs.{needs}
-use Rattle.model.specs.Calls.{AfterPart, part, partOf}
+use Rattle.model.specs.Calls.{AfterPart, part}
 use Rattle.book.specs.Answers.{afterPart}
 use Rattle.book.proofs.Bounds.{Within, part-within}
 use Rattle.planner.proofs.part.Statement.{statement}
@@ -16,13 +15,13 @@ inside : (c : tie.After-place) → Within (afterPart (c .place .result)) (c .bef
 inside c = let a = c .before .before .before .args in rw (c .place .ensures) (part-within (a .sheet .now) (a .book .now) (a .process))
 
 sub-result : tie.Need-sub-result
-sub-result c = inside c .0
+sub-result c = inside c .rising
 
 part-result-start : tie.Need-part-result-start
-part-result-start c = inside c .0
+part-result-start c = inside c .rising
 
 part-result-end : tie.Need-part-result-end
-part-result-end c = inside c .1
+part-result-end c = inside c .inside
 
 returns : tie.Need-returns
 unfolding part

@@ -1,9 +1,7 @@
 -- `planner::place` meets its contract: the sheet is read, and then the book. Assumes nothing.
-use mathlib.Core.Path.{_≡_, sym, ap, _∙_}
-use mathlib.Core.List.{List}
-use Prim.Native.Nat.{ℕ}
+use mathlib.Core.Path.{_≡_, _∙_}
 use borrow.Author.Needs.{needs}
-use Rattle.model.specs.Sheet.{Reading, proper, _then_, readSheet}
+use Rattle.model.specs.Sheet.{proper, _then_, readSheet}
 use Rattle.model.specs.Calls.{cut, partSheet, partOf}
 use Rattle.model.proofs.Sheet.{sheet-good}
 use Rattle.sheet.specs.Struct.{sheetOf}
@@ -37,14 +35,14 @@ place-for-requires c κs = sized _ _ (c .of .ensures) (sheet-good _ _ (sheet-is 
 
 returns : tie.Need-returns
 unfolding partOf partSheet _then_ cut
-returns c = 
+returns c =
     let r = c .before .before .before .before .read .result in
     let e = read-refused _ (r .answer) (r .sheet) (c .before .before .answer .given .0 .0) (c .before .before .before .before .read .ensures .0) (c .before .before .answer .given .1) in
     rw e (c .nowhere .ensures)
 
 returns-2 : tie.Need-returns-2
 unfolding partOf
-returns-2 c = 
+returns-2 c =
     let a = c .before .before .before .before .before .before .before .before .args in
     let e = part-by (a .sheet .now) (a .book .now) (a .process) _ (sheet-is (c .before)) in
     rw e (c .place-for .ensures ∙ same-part _ _ (c .before .of .ensures) (a .book .now) (a .process))

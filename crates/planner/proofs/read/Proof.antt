@@ -1,9 +1,7 @@
 -- `planner::read` meets its contract: the sheet is read, and then the book. Assumes nothing.
-use mathlib.Core.Path.{_≡_, sym, ap, _∙_}
-use mathlib.Core.List.{List}
-use Prim.Native.Nat.{ℕ}
+use mathlib.Core.Path.{_≡_, ap, _∙_}
 use borrow.Author.Needs.{needs}
-use Rattle.model.specs.Sheet.{Reading, proper, _then_, readSheet}
+use Rattle.model.specs.Sheet.{proper, _then_, readSheet}
 use Rattle.model.specs.Calls.{gave, readOf}
 use Rattle.model.proofs.Sheet.{sheet-good}
 use Rattle.sheet.specs.Struct.{sheetOf}
@@ -37,7 +35,7 @@ read-for-requires c κs = sized _ _ (c .of .ensures) (sheet-good _ _ (sheet-is c
 
 returns : tie.Need-returns
 unfolding readOf _then_
-returns c = 
+returns c =
     let r = c .before .before .before .before .read .result in
     let e = read-refused _ (r .answer) (r .sheet) (c .before .before .answer .given .0 .0) (c .before .before .before .before .read .ensures .0) (c .before .before .answer .given .1) in
     rw e (c .unread .ensures)

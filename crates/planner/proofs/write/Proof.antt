@@ -1,9 +1,7 @@
 -- `planner::write` meets its contract: the sheet is read, and then the tables are written. Assumes nothing.
 use mathlib.Core.Path.{_≡_, refl, sym, _∙_}
-use mathlib.Core.List.{List}
-use Prim.Native.Nat.{ℕ}
 use borrow.Author.Needs.{needs}
-use Rattle.model.specs.Sheet.{Reading, proper, _then_, readSheet}
+use Rattle.model.specs.Sheet.{proper, _then_, readSheet}
 use Rattle.model.specs.Calls.{wrote, written, writeOf}
 use Rattle.model.proofs.Sheet.{sheet-good}
 use Rattle.sheet.specs.Struct.{sheetOf}
@@ -34,7 +32,7 @@ write-for-requires c κs = sized _ _ (c .before .of .ensures) (sheet-good _ _ (s
 
 returns : tie.Need-returns
 unfolding writeOf written _then_ wrote
-returns c = 
+returns c =
     let r = c .before .before .before .read .result in
     let e = read-refused _ (r .answer) (r .sheet) (c .before .answer .given .0 .0) (c .before .before .before .read .ensures .0) (c .before .answer .given .1) in
     rw e (refl, refl)
@@ -44,7 +42,7 @@ same-length c = search needs
 
 returns-2 : tie.Need-returns-2
 unfolding writeOf
-returns-2 c = 
+returns-2 c =
     let a = c .before .before .before .before .before .before .before .before .before .before .before .args in
     let e : written (a .sheet .now) (a .tables .now) (a .book .now) ≡ _ = written-by (a .sheet .now) (a .tables .now) (a .book .now) _ (sheet-is (c .before .before .before .before)) ∙ sym (same-written _ _ (c .before .before .before .before .of .ensures) (a .tables .now) (a .book .now)) in
     rw e (c .before .before .write-for .ensures .0, c .before .before .write-for .ensures .1)

@@ -22,7 +22,7 @@ abbrev μ-loop : tie.MeasureT-loop
 μ-loop places n book k₀ k = n - k
 
 returns : tie.Need-returns Inv-loop μ-loop
-returns c = 
+returns c =
     let a = c .before .before .before .args in
     sym (ap not (wrong-length (placesOf (a .places .now) (a .n)) (a .book .now) (λ e. c .if1 .taken (e ∙ places-length (a .places .now) (a .n) (c .before .before .before .pre)))))
 
@@ -71,7 +71,7 @@ loop-again c = (omega (arith, c .before .before .before .before .loop-test .take
 
 returns-3 : tie.Need-returns-3 Inv-loop μ-loop
 unfolding wellFormed
-returns-3 c = 
+returns-3 c =
     let l = c .before .loop in
     let a = c .before .before .before .before .before .args in
     let places-done = drop-of-length-le (take (a .n) (a .places .now)) {i = l .k} (omega (arith, length-take-le (a .n) (a .places .now) (c .before .before .before .before .before .pre), c .loop-test .left)) in

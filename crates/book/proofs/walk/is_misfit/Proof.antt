@@ -1,6 +1,6 @@
 -- `book::walk::is_misfit` meets its contract. The invariant: the test from entry k on is the test of all. Assumes nothing.
 use mathlib.Core.Path.{_≡_, refl, sym, ap, _∙_}
-use mathlib.Core.Bool.{Bool, not, _&&_}
+use mathlib.Core.Bool.{not, _&&_}
 use mathlib.Core.List.{map}
 use Prim.Native.Nat.{_+_, _-_, _≤_}
 use native.Mathlib.Omega.{arith}
@@ -58,7 +58,7 @@ loop-again c = (omega (arith, c .before .before .before .before .loop-test .take
 
 returns-2 : tie.Need-returns-2 Inv-loop μ-loop
 unfolding fits
-returns-2 c = 
+returns-2 c =
     let l = c .before .loop in
     let a = c .before .before .before .before .args in
     let done = drop-of-length-le (take (a .n) (a .kinds .now)) {i = l .k} (omega (arith, length-take-le (a .n) (a .kinds .now) (c .before .before .before .before .pre .0), c .loop-test .left)) in

@@ -1,8 +1,5 @@
 -- `book::walk::may_be` meets its contract. Assumes nothing.
-use mathlib.Core.Path.{_≡_, refl, sym, ap, _∙_}
-use native.Mathlib.Omega.{arith}
 use borrow.Author.Tests.{eq-eqb, ne-eqb}
-use borrow.Author.Needs.{needs}
 use Rattle.model.specs.Mask.{if, within}
 use Rattle.model.specs.Choice.{may}
 use Rattle.layout.specs.Codes.{kindOf}

@@ -3,12 +3,11 @@ use mathlib.Core.Path.{_≡_, refl, sym, ap, _∙_}
 use mathlib.Core.List.{List, _++_}
 use Prim.Native.Nat.{ℕ, _-_, _≤_}
 use native.Mathlib.Omega.{arith}
-use lib.ListN.{length, getD, drop}
-use borrow.Author.Needs.{needs}
+use lib.ListN.{length}
 use Rattle.model.specs.Book.{filled}
 use Rattle.model.specs.Calls.{front}
 use Rattle.model.proofs.Book.{holes, filled-length}
-use Rattle.layout.specs.Codes.{placeOf, placesOf}
+use Rattle.layout.specs.Codes.{placesOf}
 use Rattle.book.proofs.Places.{places-length, filled-more, holes-more, holes-fewer, holes-room, front-set, front-length}
 use Rattle.book.proofs.walk.put_bytes.Statement.{statement}
 use Rattle.book.proofs.walk.put_bytes.Tie as tie
@@ -39,7 +38,7 @@ long c =
     (omega (arith, filled-length (placesOf (a .places .now) (l .k)) (a .tables .now), places-length (a .places .now) (l .k) (omega (arith, l .inv .0, c .before .before .before .before .pre .0 .0)), l .inv .0, c .before .before .before .before .pre .0 .1))
 
 byte-of-requires : tie.Need-byte-of-requires Inv-loop μ-loop
-byte-of-requires c κs = 
+byte-of-requires c κs =
     let a = c .before .before .before .before .before .before .args in
     let p = c .before .before .before .before .before .before .pre in
     let l = c .before .before .loop in
@@ -58,21 +57,20 @@ loop-less : tie.Need-loop-less Inv-loop μ-loop
 loop-less c = omega (arith, c .before .before .before .loop-test .taken)
 
 loop-again : tie.Need-loop-again Inv-loop μ-loop
-loop-again c = 
+loop-again c =
     let a = c .before .before .before .before .before .before .before .before .args in
     let p = c .before .before .before .before .before .before .before .before .pre in
     let l = c .before .before .before .before .loop in
     let h = c .before .before .before .loop-test .taken in
     let old = filled (placesOf (a .places .now) (l .k)) (a .tables .now) in
     let more = filled-more (a .places .now) (a .tables .now) (l .k) (omega (arith, h, p .0 .0)) in
-    let long-old : l .k ≡ length old = sym (filled-length (placesOf (a .places .now) (l .k)) (a .tables .now) ∙ places-length (a .places .now) (l .k) (omega (arith, h, p .0 .0))) in
-    (
+    let long-old : l .k ≡ length old = sym (filled-length (placesOf (a .places .now) (l .k)) (a .tables .now) ∙ places-length (a .places .now) (l .k) (omega (arith, h, p .0 .0))) in (
       omega (arith, h),
       (
         c .entry-after .ensures ∙ rw (l .inv .1 .0) (sym (holes-more (a .places .now) (l .k) (omega (arith, h, p .0 .0)))),
         rw (l .inv .1 .1) (front-set old (a .book .now) (l .k) (c .before .byte-of .result) long-old (omega (arith, h, p .0 .1)))
-        ∙ ap (λ (xs : List ℕ). front xs (a .book .now)) (ap (λ (xs : List ℕ). old ++ xs) (rw (l .inv .1 .0) at (c .before .byte-of .ensures)) ∙ sym more)
-      )
+            ∙ ap (λ (xs : List ℕ). front xs (a .book .now)) (ap (λ (xs : List ℕ). old ++ xs) (rw (l .inv .1 .0) at (c .before .byte-of .ensures)) ∙ sym more),
+      ),
     )
 
 same-length : tie.Need-same-length Inv-loop μ-loop

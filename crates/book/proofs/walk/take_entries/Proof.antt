@@ -4,10 +4,8 @@ use mathlib.Core.List.{List, [], _∷_}
 use Prim.Native.Nat.{ℕ, _-_, _≤_}
 use native.Mathlib.Omega.{arith}
 use lib.ListN.{length, getD, length-append}
-use borrow.Author.Needs.{needs}
 use Rattle.model.specs.Book.{entriesIn}
 use Rattle.model.specs.Calls.{front}
-use Rattle.model.proofs.Book.{holes}
 use Rattle.layout.specs.Codes.{placeOf, placesOf}
 use Rattle.book.proofs.Places.{places-length, entries-length, entries-more, holes-fewer, entries-room, front-more, front-length}
 use Rattle.book.proofs.walk.take_entries.Statement.{statement}
@@ -43,7 +41,7 @@ long c =
     (omega (arith, entries-length (placesOf (a .places .now) (l .k)) (a .book .now) (omega (arith, places-length (a .places .now) (l .k) (omega (arith, l .inv .0, p .0 .0)), l .inv .0, p .0 .1)), holes-fewer (a .places .now) (l .k) (a .n) (l .inv .0), p .1))
 
 keep-requires : tie.Need-keep-requires Inv-loop μ-loop
-keep-requires c κs = 
+keep-requires c κs =
     let a = c .before .before .before .before .before .before .before .before .args in
     let p = c .before .before .before .before .before .before .before .before .pre in
     let l = c .before .before .before .before .loop in
@@ -56,7 +54,7 @@ loop-less : tie.Need-loop-less Inv-loop μ-loop
 loop-less c = omega (arith, c .before .before .before .before .before .before .loop-test .taken)
 
 loop-again : tie.Need-loop-again Inv-loop μ-loop
-loop-again c = 
+loop-again c =
     let a = c .before .before .before .before .before .before .before .before .before .before .before .args in
     let p = c .before .before .before .before .before .before .before .before .before .before .before .pre in
     let l = c .before .before .before .before .before .before .before .loop in
@@ -64,13 +62,12 @@ loop-again c =
     let h = c .before .before .before .before .before .before .loop-test .taken in
     let more = entries-more (a .places .now) (a .book .now) (l .k) (omega (arith, h, p .0 .0)) (omega (arith, h, p .0 .1)) in
     let old = entriesIn (placesOf (a .places .now) (l .k)) (a .book .now) in
-    let new = entriesIn (placeOf (getD (a .places .now) (l .k) 0) ∷ []) (getD (a .book .now) (l .k) 0 ∷ []) in
-    (
+    let new = entriesIn (placeOf (getD (a .places .now) (l .k) 0) ∷ []) (getD (a .book .now) (l .k) 0 ∷ []) in (
       omega (arith, h),
       (
         k .ensures .0 ∙ rw (l .inv .1 .0) (sym (ap length more ∙ length-append old new)),
-        k .ensures .1 ∙ rw (l .inv .1 .1) (front-more old new (a .tables .now) (l .e) (k .result) (l .inv .1 .0) (k .ensures .0)) ∙ ap (λ (xs : List ℕ). front xs (a .tables .now)) (sym more)
-      )
+        k .ensures .1 ∙ rw (l .inv .1 .1) (front-more old new (a .tables .now) (l .e) (k .result) (l .inv .1 .0) (k .ensures .0)) ∙ ap (λ (xs : List ℕ). front xs (a .tables .now)) (sym more),
+      ),
     )
 
 same-length : tie.Need-same-length Inv-loop μ-loop

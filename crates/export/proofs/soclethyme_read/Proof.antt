@@ -1,0 +1,39 @@
+-- `export::soclethyme_read` meets its contract. Assumes nothing.
+use mathlib.Core.Path.{_≡_, refl, sym, ap, _∙_}
+use borrow.Author.Needs.{needs}
+use Rattle.model.specs.declared.Reply.{Reply}
+use Rattle.model.specs.Calls.{AfterRead, readOf}
+use Rattle.export.specs.After.{tablesBy}
+use Rattle.export.proofs.soclethyme_read.Statement.{statement}
+use Rattle.export.proofs.soclethyme_read.Tie as tie
+
+read-requires : tie.Need-read-requires
+read-requires c κs = search needs
+
+enum-known-answer : tie.Need-enum-known-answer
+enum-known-answer c = search needs
+
+number-requires : tie.Need-number-requires
+number-requires c κs = search needs
+
+enum-told : tie.Need-enum-told
+enum-told c = search needs
+
+returns : tie.Need-returns
+unfolding tablesBy
+returns c =
+    let a = c .before .before .before .before .before .before .before .args in
+    let e : readOf (a .sheet .now) (a .book .now) .answer ≡ Reply.Refused (c .before .before .answer .given .0 .0) = sym (ap (λ (x : AfterRead). x .answer) (c .before .before .before .before .read .ensures)) ∙ c .before .before .answer .given .1 in
+    rw e (c .number .ensures, refl)
+
+returns-2 : tie.Need-returns-2
+unfolding tablesBy
+returns-2 c =
+    let a = c .before .before .before .before .before .before .args in
+    let e : readOf (a .sheet .now) (a .book .now) .answer ≡ Reply.Done = sym (ap (λ (x : AfterRead). x .answer) (c .before .before .before .read .ensures)) ∙ c .before .enum-told .given .1 in
+    rw e (refl, ap (λ (x : AfterRead). x .tables) (c .before .before .before .read .ensures))
+
+pub soclethyme-read-spec : {M : Type 1} → statement M
+soclethyme-read-spec =
+    tie.close
+    (tie.spec read-requires enum-known-answer number-requires enum-told returns returns-2)

@@ -1,0 +1,21 @@
+-- `export::soclethyme_write` meets its contract. Assumes nothing.
+use mathlib.Core.Path.{ap, _∙_}
+use borrow.Author.Needs.{needs}
+use Rattle.model.specs.Numbers.{replyCode}
+use Rattle.export.proofs.soclethyme_write.Statement.{statement}
+use Rattle.export.proofs.soclethyme_write.Tie as tie
+
+write-requires : tie.Need-write-requires
+write-requires c κs = search needs
+
+reply-code-requires : tie.Need-reply-code-requires
+reply-code-requires c κs = search needs
+
+same-length : tie.Need-same-length
+same-length c = search needs
+
+returns : tie.Need-returns
+returns c = (c .reply-code .ensures ∙ ap replyCode (c .before .before .before .write .ensures .0), c .before .before .before .write .ensures .1)
+
+pub soclethyme-write-spec : {M : Type 1} → statement M
+soclethyme-write-spec = tie.close (tie.spec write-requires reply-code-requires same-length returns)

@@ -1,0 +1,7 @@
+-- What the proofs of several functions use. Steps has the laws of the tables' graph for other crates too.
+mod Sums
+mod Numbers
+pub mod Steps
+mod Looking
+mod Turning
+mod Rising
