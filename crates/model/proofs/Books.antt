@@ -23,15 +23,16 @@ use Rattle.model.specs.Demands.{demand-2}
 use Rattle.model.proofs.Sheet.{passes, Good, sheet-good}
 use Rattle.model.proofs.Choice.{fits-length, fits-front, fits-right}
 use Rattle.model.proofs.Book.{holes, filled-front, filled-length, filled-well, filled-entries, read-filled, read-length, holes-form}
+use Rattle.model.proofs.Parts.{parts-with-end}
 use Rattle.model.proofs.Loops.{loops-exactly, valid-exactly}
 use Rattle.model.proofs.Annotated.{annotates}
 
 -- ---- a book that is read
-record Read (s : Sheet) (book c : List ℕ) : Type 0 where
-  is-choice : IsChoice s c
-  is-book : bookOf s c ≡ book
+pub record Read (s : Sheet) (book c : List ℕ) : Type 0 where
+  pub is-choice : IsChoice s c
+  pub is-book : bookOf s c ≡ book
 
-read-right : (s : Sheet) (book c : List ℕ) → readBook s book ≡ proper c → Read s book c
+pub read-right : (s : Sheet) (book c : List ℕ) → readBook s book ≡ proper c → Read s book c
 unfolding readBook bookFault entryFault bookOf
 read-right s book c e = by (h₂ .1)
   where
@@ -124,10 +125,17 @@ module _ (sheet : List ℕ) (s : Sheet) (is-proper : readSheet sheet ≡ proper 
   unfolding bookLength bookOf
   longer c book e = omega (arith, filled-length (form s) c, ap length e)
 
-  again : (book : List ℕ) (k : Reading (List ℕ)) → readBook s book ≡ k → gave k .answer ≡ Reply.Done → writeOf sheet (gave k .tables) book ≡ record { answer = Reply.Done; book = book }
+  -- a book that is read has a choice
+  was-read : (book : List ℕ) → readOf sheet book .answer ≡ Reply.Done → (c : List ℕ) × (readBook s book ≡ proper c)
   unfolding gave
-  again book (refused r) e d = let z : _≡_ {A = ℕ} 0 1 = cc in absurd (omega arith)
-  again book (proper c) e d =
+  was-read book d = by (readBook s book) (sym (ap (λ (a : AfterRead). a .answer) (read-is book)) ∙ d)
+    where
+      by : (k : Reading (List ℕ)) → gave k .answer ≡ Reply.Done → (c : List ℕ) × (k ≡ proper c)
+      by (refused r) e = let z : _≡_ {A = ℕ} 0 1 = cc in absurd (omega arith)
+      by (proper c) e = (c, refl)
+
+  again : (book c : List ℕ) → readBook s book ≡ proper c → writeOf sheet (tablesOf c) book ≡ record { answer = Reply.Done; book = book }
+  again book c e =
       let r : Read s book c = read-right s book c e in
       let long : bookLength s ≤ length book = longer c book (r .is-book) in
       write-is c book (r .is-choice) long
@@ -166,6 +174,9 @@ module _ (sheet : List ℕ) (s : Sheet) (is-proper : readSheet sheet ≡ proper 
     writes = write-is;
     reads-what-was-written = λ c choice. read-is (bookOf s c) ∙ gave-is c (written-is-read s c choice);
     writes-what-was-read = λ book d.
-        subst (λ (a : AfterRead). writeOf sheet (a .tables) book ≡ record { answer = Reply.Done; book = book }) (sym (read-is book))
-        (again book (readBook s book) refl (sym (ap (λ (a : AfterRead). a .answer) (read-is book)) ∙ d));
+        let r = was-read book d in
+        subst (λ (a : AfterRead). writeOf sheet (a .tables) book ≡ record { answer = Reply.Done; book = book }) (sym (read-is book ∙ gave-is (r .0) (r .1))) (again book (r .0) (r .1));
+    parts-are-the-book = λ book d.
+        let r = was-read book d in
+        parts-with-end sheet s is-proper book (r .0) (r .1) (read-right s book (r .0) (r .1) .is-book);
   }

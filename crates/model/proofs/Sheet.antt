@@ -1,5 +1,5 @@
 -- What is known of a proper sheet; and reading a sheet refuses by 1 to 7 only.
-use mathlib.Core.Path.{_≡_, refl, sym, subst}
+use mathlib.Core.Path.{_≡_, refl, sym, ap, subst}
 use mathlib.Core.Bool.{Bool, true, false, _||_, not, true≢false}
 use mathlib.Core.Logic.{_⊎_, inl, inr, ⊎-elim}
 use mathlib.Core.List.{List, [], _∷_, _++_, List·Memᴰ, List·Memᴰ·not-nil, List·Memᴰ·cases-cons, List·Memᴰ·append-cases}
@@ -68,6 +68,7 @@ pub record Good (s : Sheet) : Type 0 where
   pub few-states : s .states ≤ 16
   pub initial-known : s .initial < s .states
   pub rejecting-known : s .rejecting < 2 ^ s .states
+  pub few-edges : length (s .edges) ≤ 64
   pub edges-good : GoodEdges (s .variables) (s .states) (s .edges)
 
 good-edge : (variables states : ℕ) (e : Edge) → edFault variables states e ≡ false → GoodEdge variables states e
@@ -129,27 +130,28 @@ end-read b i es e =
     (sym (same-proper [] es (h₃ .1)), ltb-false _ _ (h₃ .0))
 
 -- what EN alone says, where k edges of 6 bytes may stand
-no-edges : (variables states k : ℕ) (b : List ℕ) (i : ℕ) (es : List Edge) → readEnd b i ≡ proper es → GoodEdges variables states es × (length b ≤ i + 6 * k + 2)
+no-edges : (variables states k : ℕ) (b : List ℕ) (i : ℕ) (es : List Edge) → readEnd b i ≡ proper es → GoodEdges variables states es × (length es ≤ k) × (length b ≤ i + 6 * k + 2)
 no-edges variables states k b i es e =
     let h = end-read b i es e in
-    (subst (GoodEdges variables states) (sym (h .0)) (nil-good variables states), omega arith)
+    (subst (GoodEdges variables states) (sym (h .0)) (nil-good variables states), omega (arith, ap length (h .0)), omega arith)
 
 -- at most k edges of 6 bytes, then EN
-edges-read : (variables states k : ℕ) (b : List ℕ) (i : ℕ) (es : List Edge) → readEdges variables states k b i ≡ proper es → GoodEdges variables states es × (length b ≤ i + 6 * k + 2)
+edges-read : (variables states k : ℕ) (b : List ℕ) (i : ℕ) (es : List Edge) → readEdges variables states k b i ≡ proper es → GoodEdges variables states es × (length es ≤ k) × (length b ≤ i + 6 * k + 2)
 unfolding readEdges readEdge
 edges-read variables states zero b i es e = no-edges variables states zero b i es e
 edges-read variables states (suc k) b i es e =
     by (λ es e. edges-read variables states k b (i + 6) es e) (if-cases (marked b i ED) (readEdge variables states b i (readEdges variables states k b (i + 6))) (readEnd b i) e)
   where
-    by : ((es : List Edge) → readEdges variables states k b (i + 6) ≡ proper es → GoodEdges variables states es × (length b ≤ i + 6 + 6 * k + 2))
-        → (readEdge variables states b i (readEdges variables states k b (i + 6)) ≡ proper es) ⊎ (readEnd b i ≡ proper es) → GoodEdges variables states es × (length b ≤ i + 6 * suc k + 2)
+    by : ((es : List Edge) → readEdges variables states k b (i + 6) ≡ proper es → GoodEdges variables states es × (length es ≤ k) × (length b ≤ i + 6 + 6 * k + 2))
+        → (readEdge variables states b i (readEdges variables states k b (i + 6)) ≡ proper es) ⊎ (readEnd b i ≡ proper es) → GoodEdges variables states es × (length es ≤ suc k) × (length b ≤ i + 6 * suc k + 2)
     by ih (inr q) = no-edges variables states (suc k) b i es q
     by ih (inl q) =
         let h₁ = passes SheetTooShort (short b i 6) _ q in
         let h₂ = passes BadEdge (edFault variables states (edgeAt b i)) _ (h₁ .1) in
         let h₃ = goes-on (readEdges variables states k b (i + 6)) (λ es. proper (edgeAt b i ∷ es)) (h₂ .1) in
         let rest = ih (h₃ .0) (h₃ .1) in
-        (subst (GoodEdges variables states) (same-proper (edgeAt b i ∷ h₃ .0) es (h₃ .2)) (cons-good variables states (good-edge variables states (edgeAt b i) (h₂ .0)) (rest .0)), omega arith)
+        let same : edgeAt b i ∷ h₃ .0 ≡ es = same-proper (edgeAt b i ∷ h₃ .0) es (h₃ .2) in
+        (subst (GoodEdges variables states) same (cons-good variables states (good-edge variables states (edgeAt b i) (h₂ .0)) (rest .0)), omega (arith, rest .1, ap length same), omega arith)
 
 pub good-automaton : (states initial rejecting : ℕ) → auFault states initial rejecting ≡ false → (states ≤ 16) × (initial < states) × (rejecting < 2 ^ states)
 unfolding auFault
@@ -197,6 +199,7 @@ module _ (variables environment root : ℕ) (v8 : variables ≤ 8) (e4 : environ
           few-states = a .0;
           initial-known = a .1;
           rejecting-known = a .2;
+          few-edges = edges .1;
           edges-good = edges .0;
         },
         omega arith,

@@ -10,3 +10,4 @@ pub mod BitLaws
 pub mod SetLaws
 pub mod WalkLaws
 pub mod LoopLaws
+pub mod Same

@@ -1,0 +1,128 @@
+-- Reading a sheet looks at no byte behind the first 418, one more than the longest proper sheet has: who reads that many gets the answer for the whole file.
+use mathlib.Core.Path.{_≡_, refl, sym, ap, _∙_}
+use mathlib.Core.Bool.{Bool, _&&_, _||_, not}
+use mathlib.Core.Logic.{⊎-elim}
+use mathlib.Core.List.{List, [], _∷_, _++_}
+use Prim.Native.Nat.{ℕ, zero, suc, _+_, _*_, _≤_, _<_}
+use native.Mathlib.Omega.{arith}
+use lib.Dec.{eqb, ltb}
+use lib.ListN.{length, take, length-take}
+use lib.Seq.{getD-take}
+use borrow.Author.Tests.{ltb-true, ltb-false, lt-ltb, le-ltb}
+use Rattle.theory.proofs.Bools.{bool-cases}
+use Rattle.model.specs.declared.Refusal.{Refusal}
+use Rattle.model.specs.declared.Refusal.the-variants.{SheetTooShort, WrongMark, BadArchitecture, BadProcess, NoOwnerOrTooMany, BadAutomaton, BadEdge}
+use Rattle.model.specs.Mask.{if}
+use Rattle.model.specs.Sheet.{Process, Reading, proper, byte, short, marked, EN, ED, AU, PR, AR, arFault, prFault, allFault, auFault, edFault, processAt, edgeAt, readEnd, readEdge, readEdges, readAutomaton, readProcess, readProcesses, readSheet, refuse_when_else_, _then_}
+use Rattle.model.specs.Calls.{reply, checkOf}
+
+-- ---- equal tests with equal rests are read alike
+infixr 20 alike_when_else_
+alike_when_else_ : {A : Type 0} (r : Refusal) {t u : Bool} {x y : Reading A} → t ≡ u → x ≡ y → refuse_when_else_ r t x ≡ refuse_when_else_ r u y
+alike_when_else_ r p q = cc
+
+then-same : {A B : Type 0} {m n : Reading A} {f g : A → Reading B} → m ≡ n → f ≡ g → _then_ m f ≡ _then_ n g
+then-same p q = cc
+
+-- the rest where the test fails comes first
+infixr 20 unless_read_else_
+unless_read_else_ : {A : Type 0} {t u : Bool} {x y z w : A} → t ≡ u → x ≡ y → z ≡ w → if t z x ≡ if u w y
+unless_read_else_ p q r = cc
+
+-- two tests that pass and fail together
+test-same : (x m y n : ℕ) → (x < m → y < n) → (m ≤ x → n ≤ y) → ltb x m ≡ ltb y n
+test-same x m y n f g = ⊎-elim (λ e. e ∙ sym (lt-ltb y n (f (ltb-true x m e)))) (λ e. e ∙ sym (le-ltb y n (g (ltb-false x m e)))) (bool-cases (ltb x m))
+
+-- ---- what reading asks of a sheet, below 418
+record Same (a b : List ℕ) : Type 0 where
+  bytes : (i : ℕ) → i < 418 → byte a i ≡ byte b i
+  ends : (i : ℕ) → i ≤ 418 → ltb (length a) i ≡ ltb (length b) i
+  follows : (i : ℕ) → i < 418 → ltb i (length a) ≡ ltb i (length b)
+
+taken-same : (b : List ℕ) → Same (take 418 b) b
+taken-same b = record {
+  bytes = λ i l. getD-take 418 b i 0 l;
+  ends = λ i l. test-same (length (take 418 b)) i (length b) i (λ h. omega (arith, length-take 418 b)) (λ h. omega (arith, length-take 418 b));
+  follows = λ i l. test-same i (length (take 418 b)) i (length b) (λ h. omega (arith, length-take 418 b)) (λ h. omega (arith, length-take 418 b));
+}
+
+module _ (a b : List ℕ) (same : Same a b) where
+  short-same : (i n : ℕ) → i + n ≤ 418 → short a i n ≡ short b i n
+  unfolding short
+  short-same i n l = same .ends (i + n) l
+
+  marked-same : (i : ℕ) (m : List ℕ) → i + 2 ≤ 418 → marked a i m ≡ marked b i m
+  unfolding marked
+  marked-same i m l = λ j. not (short-same i 2 l j) && eqb (same .bytes i (omega arith) j) (byte m 0) && eqb (same .bytes (i + 1) (omega arith) j) (byte m 1)
+
+  -- the bytes behind the mark of a record at i
+  record Fields (i : ℕ) : Type 0 where
+    second : byte a (i + 2) ≡ byte b (i + 2)
+    third : byte a (i + 3) ≡ byte b (i + 3)
+    fourth : byte a (i + 4) ≡ byte b (i + 4)
+    fifth : byte a (i + 5) ≡ byte b (i + 5)
+
+  fields : (i : ℕ) → i + 6 ≤ 418 → Fields i
+  fields i l = record { second = same .bytes (i + 2) (omega arith); third = same .bytes (i + 3) (omega arith); fourth = same .bytes (i + 4) (omega arith); fifth = same .bytes (i + 5) (omega arith) }
+
+  -- EN, with no byte after it
+  end-same : (i : ℕ) → i ≤ 415 → readEnd a i ≡ readEnd b i
+  unfolding readEnd
+  end-same i l =
+      alike SheetTooShort when short-same i 2 (omega arith) else
+      alike WrongMark when ap not (marked-same i EN (omega arith)) else
+      alike WrongMark when same .follows (i + 2) (omega arith) else
+      refl
+
+  -- at most k more ED of 6 bytes, then EN
+  edges-same : (variables states k i : ℕ) → i + 6 * k ≤ 415 → readEdges variables states k a i ≡ readEdges variables states k b i
+  unfolding readEdges readEdge
+  edges-same variables states zero i l = end-same i (omega arith)
+  edges-same variables states (suc k) i l =
+      let f : Fields i = fields i (omega arith) in
+      let own : edgeAt a i ≡ edgeAt b i = λ j. record { from = f .second j; to = f .third j; on = f .fourth j; off = f .fifth j } in
+      unless marked-same i ED (omega arith) read end-same i (omega arith) else
+      alike SheetTooShort when short-same i 6 (omega arith) else
+      alike BadEdge when ap (edFault variables states) own else
+      then-same (edges-same variables states k (i + 6) (omega arith)) (λ j es. proper (own j ∷ es))
+
+  module _ (variables environment root : ℕ) where
+    -- AU, then at most 64 ED
+    automaton-same : (ps : List Process) (i : ℕ) → i ≤ 25 → readAutomaton variables environment root ps a i ≡ readAutomaton variables environment root ps b i
+    unfolding readAutomaton
+    automaton-same ps i l =
+        let f : Fields i = fields i (omega arith) in
+        let rejecting : byte a (i + 4) + 256 * byte a (i + 5) ≡ byte b (i + 4) + 256 * byte b (i + 5) = λ j. f .fourth j + 256 * f .fifth j in
+        alike SheetTooShort when short-same i 2 (omega arith) else
+        alike WrongMark when ap (λ (t : Bool). not t || eqb (length ps) 0) (marked-same i AU (omega arith)) else
+        alike SheetTooShort when short-same i 6 (omega arith) else
+        alike NoOwnerOrTooMany when refl {a = allFault variables environment ps} else
+        alike BadAutomaton when (λ j. auFault (f .second j) (f .third j) (rejecting j)) else
+        then-same (edges-same variables (byte a (i + 2)) 64 (i + 6) (omega arith) ∙ ap (λ (n : ℕ). readEdges variables n 64 b (i + 6)) (f .second))
+        (λ j es. proper record { variables = variables; environment = environment; root = root; processes = ps; states = f .second j; initial = f .third j; rejecting = rejecting j; edges = es })
+
+    -- at most k more PR of 5 bytes, then AU
+    processes-same : (k : ℕ) (ps : List Process) (i : ℕ) → i + 5 * k ≤ 25 → readProcesses variables environment root k ps a i ≡ readProcesses variables environment root k ps b i
+    unfolding readProcesses readProcess
+    processes-same zero ps i l = automaton-same ps i (omega arith)
+    processes-same (suc k) ps i l =
+        let f : Fields i = fields i (omega arith) in
+        let own : processAt a i ≡ processAt b i = λ j. record { inputs = f .second j; outputs = f .third j; bound = f .fourth j } in
+        unless marked-same i PR (omega arith) read automaton-same ps i (omega arith) else
+        alike SheetTooShort when short-same i 5 (omega arith) else
+        alike BadProcess when ap (prFault variables environment ps) own else
+        processes-same k (ps ++ (processAt a i ∷ [])) (i + 5) (omega arith) ∙ ap (λ (p : Process). readProcesses variables environment root k (ps ++ (p ∷ [])) b (i + 5)) own
+
+  sheet-same : readSheet a ≡ readSheet b
+  unfolding readSheet
+  sheet-same =
+      let f : Fields 0 = fields 0 (omega arith) in
+      alike SheetTooShort when short-same 0 2 (omega arith) else
+      alike WrongMark when ap not (marked-same 0 AR (omega arith)) else
+      alike SheetTooShort when short-same 0 5 (omega arith) else
+      alike BadArchitecture when (λ j. arFault (f .second j) (f .third j) (f .fourth j)) else
+      processes-same (byte a 2) (byte a 3) (byte a 4) 4 [] 5 (omega arith) ∙ λ j. readProcesses (f .second j) (f .third j) (f .fourth j) 4 [] b 5
+
+pub prefix : (b : List ℕ) → checkOf (take 418 b) ≡ checkOf b
+unfolding checkOf
+prefix b = ap reply (sheet-same (take 418 b) b (taken-same b))
