@@ -1,43 +1,49 @@
+-- `verdict::judge_for` meets its contract: the book is read, and then the annotation judged. Assumes nothing.
+use mathlib.Core.Path.{_≡_, refl, sym, ap, _∙_}
 use borrow.Author.Needs.{needs}
+use Rattle.model.specs.Sheet.{refused, _then_}
+use Rattle.model.specs.Book.{readBook}
+use Rattle.model.specs.Calls.{judged}
+use Rattle.sheet.specs.Struct.{sheetOf}
+use Rattle.machine.proofs.Sheets.{sized}
+use Rattle.graph.specs.Filled.{chosen}
+use Rattle.verdict.specs.Room.{roomFor, bookFor}
+use Rattle.verdict.proofs.Read.{Chose, was-refused, was-read}
 use Rattle.verdict.proofs.judge_for.Statement.{statement}
 use Rattle.verdict.proofs.judge_for.Tie as tie
-use Rattle.verdict.proofs.judge_for.Reads as reads
-use Rattle.verdict.proofs.judge_for.Lts as lts
-use Rattle.book.proofs.read_for.Reads as read-for-reads
-use Rattle.machine.proofs.Architecture.of.Reads as of-reads
-use Rattle.verdict.proofs.judge_tables.Reads as judge-tables-reads
 
--- src/lib.rt:44:31
 of-requires : tie.Need-of-requires
 of-requires c κs = search needs
 
--- src/lib.rt:44:9
 read-for-requires : tie.Need-read-for-requires
-read-for-requires c κs = ?
+read-for-requires c κs = sized _ _ (c .of .ensures) (c .before .before .before .pre .0)
 
--- src/lib.rt:47:24
 enum-known-answer : tie.Need-enum-known-answer
 enum-known-answer c = search needs
 
--- src/lib.rt:49:17
 enum-told : tie.Need-enum-told
 enum-told c = search needs
 
--- src/lib.rt:50:33
 slice-aggregate-judge-tables : tie.Need-slice-aggregate-judge-tables
 slice-aggregate-judge-tables c = search needs
 
--- src/lib.rt:50:13
+-- the choice of the book
+choice : (c : tie.After-enum-told) → Chose (sheetOf (c .before .before .before .before .before .before .args .sheet)) (c .before .before .before .before .before .before .args .book .now) (c .before .before .read-for .result .tables)
+choice c = was-read _ _ (c .before .before .before .of .ensures) (c .before .before .before .before .before .before .args .book .now) (c .before .before .read-for .result) (c .before .before .read-for .ensures) (c .enum-told .given .1)
+
 judge-tables-requires : tie.Need-judge-tables-requires
-judge-tables-requires c κs = ?
+judge-tables-requires c κs = (c .before .before .before .before .before .before .before .before .pre .0, (c .before .before .before .before .before .before .before .before .pre .1, choice (c .before .before) .is-choice))
 
--- src/lib.rt:39:1
 returns : tie.Need-returns
-returns c = ?
+unfolding bookFor _then_ judged
+returns c = 
+    let a = c .before .before .before .before .before .before .before .args in
+    let e = was-refused _ _ (c .before .before .before .before .of .ensures) (a .book .now) (c .before .before .before .read-for .result) (c .before .before .before .read-for .ensures) (c .before .answer .given .0 .0) (c .before .answer .given .1) in
+    rw e
 
--- src/lib.rt:39:1
 returns-2 : tie.Need-returns-2
-returns-2 c = ?
+unfolding bookFor _then_
+returns-2 c = rw (choice (c .before .before .before) .is-read) (c .judge-tables .ensures)
 
 pub judge-for-spec : {M : Type 1} → statement M
 judge-for-spec =
