@@ -1,8 +1,9 @@
 /* The library's C interface. Link libexport.a (rt staticlib export).
  *
  * Every call takes bytes and buffers of any length. A result is 0 for proper,
- * written and read; otherwise it is the number of the refusal (README.md lists
- * them), and every lent buffer then holds what it held before. */
+ * written, read, yes and annotated, and 256 for no and loop; otherwise it is
+ * the number of the refusal (README.md lists them), and every lent buffer then
+ * holds what it held before. */
 #ifndef SOCLETHYME_H
 #define SOCLETHYME_H
 
@@ -31,6 +32,19 @@ uint32_t soclethyme_read(const uint8_t *sheet, size_t sheet_len,
  * refusal (a number below 65536). */
 uint32_t soclethyme_part(const uint8_t *sheet, size_t sheet_len,
                          const uint8_t *book, size_t book_len, size_t process);
+
+/* 0 where the annotation of the book is valid, 256 where it is not. In an
+ * annotation 65535 is blank; a longer one is used at the front only. */
+uint32_t soclethyme_judge(const uint8_t *sheet, size_t sheet_len,
+                          const uint8_t *book, size_t book_len,
+                          const uint16_t *annotation, size_t annotation_len);
+
+/* Writes the exact annotation of the book at the front of `annotation` and
+ * leaves the rest; or 256, where a rejecting loop is reachable, and writes
+ * nothing. */
+uint32_t soclethyme_annotate(const uint8_t *sheet, size_t sheet_len,
+                             const uint8_t *book, size_t book_len,
+                             uint16_t *annotation, size_t annotation_len);
 
 #ifdef __cplusplus
 }

@@ -1,4 +1,4 @@
-//! The specification's bench cases that are sheets.
+//! The specification's bench cases: their sheets, and books for some.
 
 use crate::sheet::{Edge, Process, Sheet};
 
@@ -9,6 +9,19 @@ pub const CASE_A: [u8; 60] = [
     0x01, 0x00, 0x45, 0x44, 0x00, 0x02, 0x02, 0x00, 0x45, 0x44, 0x01, 0x01, 0x00, 0x04, 0x45, 0x44,
     0x02, 0x02, 0x00, 0x08, 0x45, 0x44, 0x03, 0x03, 0x00, 0x00, 0x45, 0x4E,
 ];
+
+/// A's book as the specification lists it.
+pub const BOOK_A: [u8; 20] = [
+    0x54, 0x42, 0x00, 0x00, 0x04, 0x01, 0x01, 0x01, 0x01, 0x54, 0x42, 0x00, 0x01, 0x08, 0x00, 0x00,
+    0x00, 0x00, 0x45, 0x4E,
+];
+
+/// Case D's tables that alternate, process 0 granting in state 0, 1 in state 1.
+pub const BOOK_D: [u8; 30] = *b"TB\x00\x00\x04\x01\x01TB\x00\x01\x00\x00\x00\
+    TB\x01\x00\x00\x01\x01TB\x01\x01\x08\x00\x00EN";
+
+/// The only book of case E, and of those made from it with the same bound.
+pub const BOOK_E: [u8; 8] = *b"TB\x00\x00\x00\x00EN";
 
 pub fn process(inputs: u8, outputs: u8, bound: u8) -> Process {
     Process {

@@ -1,6 +1,8 @@
 //! Books and tables for proper sheets, and bytes that spoil them.
 
 use crate::book::{book_of, layout, Place, Tables, TABLES};
+use crate::generate;
+use crate::mangle;
 use crate::rng::Rng;
 use crate::sheet::{Sheet, MOST_BOUND};
 
@@ -46,6 +48,26 @@ impl Page {
     pub fn book(&self, rng: &mut Rng) -> Vec<u8> {
         let entries = self.entries(rng);
         book_of(&self.layout, &entries)
+    }
+
+    /// A book for the page that may be changed in several places at once.
+    pub fn doubtful_book(&self, rng: &mut Rng) -> Vec<u8> {
+        let mut book = self.book(rng);
+        for _ in 0..rng.below(3) {
+            mangle::change_byte(rng, &mut book);
+        }
+        match rng.below(8) {
+            0 => {
+                let count = rng.below(60);
+                rng.bytes(count)
+            }
+            1 => strange_book(rng),
+            2 => {
+                let entries = rng.bytes(TABLES);
+                book_of(&self.layout, &entries)
+            }
+            _ => book,
+        }
     }
 
     /// Entries within the rules, and anything behind them.
@@ -95,6 +117,12 @@ fn fitting(rng: &mut Rng, style: Style, place: Place) -> u8 {
         (Place::Next(bound), Style::Most) => bound - 1,
         (Place::Next(bound), Style::Any) => rng.below(bound as usize) as u8,
     }
+}
+
+/// A proper book of some other sheet.
+fn strange_book(rng: &mut Rng) -> Vec<u8> {
+    let other = Page::new(generate::proper(rng));
+    other.book(rng)
 }
 
 /// Tables that were drawn for no sheet.

@@ -6,7 +6,7 @@ mod book_ffi;
 use std::collections::BTreeMap;
 use std::io::Write;
 
-use soclethyme_tests::bench::{case_c, case_e, CASE_A};
+use soclethyme_tests::bench::{case_c, case_e, BOOK_A, BOOK_D, BOOK_E, CASE_A};
 use soclethyme_tests::book::{
     self, book_of, entries, Tables, LONGEST_BOOK, NO_PROCESS, SHORT_BUFFER, TABLES, WRONG_ENTRY,
     WRONG_FORM,
@@ -284,32 +284,6 @@ fn compare_calls(tally: &mut Tally, rng: &mut Rng, sheet: &[u8], book: &[u8], ta
     tally.part(sheet, book, process);
 }
 
-/// A book for the page that may be changed in several places at once.
-fn doubtful_book(rng: &mut Rng, page: &Page) -> Vec<u8> {
-    let mut book = page.book(rng);
-    for _ in 0..rng.below(3) {
-        mangle::change_byte(rng, &mut book);
-    }
-    match rng.below(8) {
-        0 => {
-            let count = rng.below(60);
-            rng.bytes(count)
-        }
-        1 => strange_book(rng),
-        2 => {
-            let entries = rng.bytes(TABLES);
-            book_of(&page.layout, &entries)
-        }
-        _ => book,
-    }
-}
-
-/// A proper book of some other sheet.
-fn strange_book(rng: &mut Rng) -> Vec<u8> {
-    let other = Page::new(generate::proper(rng));
-    other.book(rng)
-}
-
 /// Tables for the page of which some entries may be anything.
 fn doubtful_tables(rng: &mut Rng, page: &Page) -> Tables {
     let mut tables = page.tables(rng);
@@ -322,7 +296,7 @@ fn doubtful_tables(rng: &mut Rng, page: &Page) -> Tables {
 fn compare_doubtful(tally: &mut Tally, rng: &mut Rng) {
     for _ in 0..15_000 {
         let page = Page::new(generate::proper(rng));
-        let book = doubtful_book(rng, &page);
+        let book = page.doubtful_book(rng);
         let tables = doubtful_tables(rng, &page);
         compare_calls(tally, rng, &page.bytes, &book, &tables);
     }
@@ -333,7 +307,7 @@ fn compare_improper_sheets(tally: &mut Tally, rng: &mut Rng) {
     for _ in 0..25_000 {
         let page = Page::new(generate::proper(rng));
         let sheet = mangle::mangled(rng, &page.sheet);
-        let book = doubtful_book(rng, &page);
+        let book = page.doubtful_book(rng);
         let tables = doubtful_tables(rng, &page);
         compare_calls(tally, rng, &sheet, &book, &tables);
     }
@@ -438,33 +412,26 @@ fn assert_book(sheet: &[u8], choice: &[u8], book: &[u8], parts: &[(usize, usize)
     assert_eq!(tally.part(sheet, book, parts.len()), NO_PROCESS);
 }
 
-const BOOK_A: [u8; 20] = [
-    0x54, 0x42, 0x00, 0x00, 0x04, 0x01, 0x01, 0x01, 0x01, 0x54, 0x42, 0x00, 0x01, 0x08, 0x00, 0x00,
-    0x00, 0x00, 0x45, 0x4E,
-];
-
 #[test]
 fn bench_case_a_book() {
     let choice = [4, 1, 1, 1, 1, 8, 0, 0, 0, 0];
     assert_book(&CASE_A, &choice, &BOOK_A, &[(0, 18)]);
 }
 
-/// The tables that alternate, process 0 granting in state 0, 1 in state 1.
 #[test]
 fn bench_case_d_book() {
-    let book = [
-        b"TB\x00\x00\x04\x01\x01TB\x00\x01\x00\x00\x00".as_slice(),
-        b"TB\x01\x00\x00\x01\x01TB\x01\x01\x08\x00\x00EN".as_slice(),
-    ]
-    .concat();
     let choice = [4, 1, 1, 0, 0, 0, 0, 1, 1, 8, 0, 0];
-    assert_book(&case_c(2, 2).bytes(), &choice, &book, &[(0, 14), (14, 28)]);
+    assert_book(
+        &case_c(2, 2).bytes(),
+        &choice,
+        &BOOK_D,
+        &[(0, 14), (14, 28)],
+    );
 }
 
 #[test]
 fn bench_case_e_book() {
-    let book = b"TB\x00\x00\x00\x00EN";
-    assert_book(&case_e().bytes(), &[0, 0], book, &[(0, 6)]);
+    assert_book(&case_e().bytes(), &[0, 0], &BOOK_E, &[(0, 6)]);
 }
 
 /// Each byte of A's book set to each value.

@@ -1,7 +1,7 @@
 // Books: writing tables, reading them back, and the part of one process.
 ghost use mathlib.Core.Path.{_≡_};
 ghost use Prim.Native.Nat.{_+_, _*_, _-_, _≤_, _<_};
-ghost use lib.ListN.{length, take, drop};
+ghost use lib.ListN.{length};
 ghost use Rattle.model.specs.Book as model;
 ghost use Rattle.model.specs.Sheet.{refused};
 ghost use Rattle.model.specs.Calls.{wrote, gave, cut};

@@ -1,9 +1,11 @@
 // The public calls for C and Rust (include/soclethyme.h): an answer is 0 for the good one, 256 for the other finding, otherwise the refusal's number.
 ghost use mathlib.Core.Path.{_≡_};
-ghost use Rattle.model.specs.Numbers.{replyCode};
-ghost use Rattle.model.specs.Calls.{checkOf, writeOf, readOf, partOf};
+ghost use Rattle.model.specs.Numbers.{replyCode, findingCode, verdictCode};
+ghost use Rattle.model.specs.Calls.{checkOf, writeOf, readOf, partOf, judgeOf, annotateOf};
 ghost use Rattle.export.specs.After.{tablesAfter, partCode};
+use model::Finding;
 use model::Reply;
+use model::Verdict;
 
 fn reply_code(reply: Reply) -> u32
     ensures { λ r. ⌜ r ≡ replyCode reply ⌝ }
@@ -11,6 +13,24 @@ fn reply_code(reply: Reply) -> u32
     match reply {
         Reply::Refused(refusal) => refusal.number(),
         Reply::Done => 0,
+    }
+}
+
+fn finding_code(finding: Finding) -> u32
+    ensures { λ r. ⌜ r ≡ findingCode finding ⌝ }
+{
+    match finding {
+        Finding::Yes => 0,
+        Finding::No => 256,
+    }
+}
+
+fn verdict_code(verdict: Verdict) -> u32
+    ensures { λ r. ⌜ r ≡ verdictCode verdict ⌝ }
+{
+    match verdict {
+        Verdict::Refused(refusal) => refusal.number(),
+        Verdict::Found(finding) => finding_code(finding),
     }
 }
 
@@ -57,4 +77,19 @@ pub extern "C" fn soclethyme_part(sheet: &[u8], book: &[u8], process: usize) -> 
         Reply::Refused(refusal) => refusal.number(),
         Reply::Done => place.end as u32 * 65536 + place.start as u32,
     }
+}
+
+#[no_mangle]
+pub extern "C" fn soclethyme_judge(sheet: &[u8], book: &[u8], annotation: &[u16]) -> u32
+    ensures { λ r. ⌜ r ≡ verdictCode (judgeOf (now (sheet .entry)) (now (book .entry)) (now (annotation .entry))) ⌝ }
+{
+    verdict_code(planner::judge(sheet, book, annotation))
+}
+
+#[no_mangle]
+pub extern "C" fn soclethyme_annotate(sheet: &[u8], book: &[u8], annotation: &mut [u16]) -> u32
+    ensures { λ r. ⌜ r ≡ verdictCode (annotateOf (now (sheet .entry)) (now (book .entry)) (now (annotation .entry)) .answer) ⌝ }
+    ensures { λ _. ⌜ now (annotation .exit) ≡ annotateOf (now (sheet .entry)) (now (book .entry)) (now (annotation .entry)) .annotation ⌝ }
+{
+    verdict_code(planner::annotate(sheet, book, annotation))
 }

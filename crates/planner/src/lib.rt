@@ -1,12 +1,13 @@
 // The public calls. Each takes whatever comes, and its contract says what it answers and what each lent buffer then holds.
 ghost use mathlib.Core.Path.{_≡_};
-ghost use Rattle.model.specs.Calls.{checkOf, writeOf, readOf, partOf};
+ghost use Rattle.model.specs.Calls.{checkOf, writeOf, readOf, partOf, judgeOf, annotateOf};
 ghost use Rattle.model.specs.Calls.{part as partIn};
 ghost use Rattle.book.specs.Answers.{afterRead, afterPart};
 use book::Part;
 use book::TablesRead;
 use machine::Architecture;
 use model::Reply;
+use model::Verdict;
 
 // A proper sheet, or the refusal of its first fault.
 pub fn check(sheet: &[u8]) -> Reply
@@ -70,4 +71,35 @@ pub fn part<'a>(sheet: &[u8], book: &'a [u8], process: usize) -> &'a [u8]
     let start = place.start;
     let end = place.end;
     &book[start..end]
+}
+
+// Is the annotation of this book valid? Longer ones are used at the front only.
+pub fn judge(sheet: &[u8], book: &[u8], annotation: &[u16]) -> Verdict
+    ensures { λ r. ⌜ r ≡ judgeOf (now (sheet .entry)) (now (book .entry)) (now (annotation .entry)) ⌝ }
+{
+    let reading = sheet::read(sheet);
+    let answer = reading.answer;
+    match answer {
+        Reply::Refused(refusal) => Verdict::Refused(refusal),
+        Reply::Done => {
+            let read = reading.sheet;
+            verdict::judge_for(read, book, annotation)
+        }
+    }
+}
+
+// Annotates the book at the front of the buffer: yes, or no where a rejecting loop is reachable, and then nothing is written.
+pub fn annotate(sheet: &[u8], book: &[u8], annotation: &mut [u16]) -> Verdict
+    ensures { λ r. ⌜ r ≡ annotateOf (now (sheet .entry)) (now (book .entry)) (now (annotation .entry)) .answer ⌝ }
+    ensures { λ _. ⌜ now (annotation .exit) ≡ annotateOf (now (sheet .entry)) (now (book .entry)) (now (annotation .entry)) .annotation ⌝ }
+{
+    let reading = sheet::read(sheet);
+    let answer = reading.answer;
+    match answer {
+        Reply::Refused(refusal) => Verdict::Refused(refusal),
+        Reply::Done => {
+            let read = reading.sheet;
+            verdict::annotate_for(read, book, annotation)
+        }
+    }
 }

@@ -1,7 +1,6 @@
 // What is wrong with the fields of a record: the conditions of the refusals 3 to 7.
 ghost use mathlib.Core.Path.{_≡_};
-ghost use mathlib.Core.Bool.{_||_};
-ghost use Prim.Native.Nat.{_+_, _-_, _*_, _^_, _≤_};
+ghost use Prim.Native.Nat.{_+_, _-_, _^_, _≤_};
 ghost use Rattle.model.specs.Mask.{beyond};
 ghost use Rattle.model.specs.Sheet.{composedStates, arFault, fieldFault, allFault, auFault, edFault};
 ghost use Rattle.sheet.specs.Struct.{sheetOf, Sized, allSet, outputsOf};

@@ -4,7 +4,7 @@ use mathlib.Core.List.{List}
 use Prim.Native.Nat.{ℕ}
 use Rattle.model.specs.declared.Refusal.{Refusal}
 use Rattle.model.specs.declared.Reply.{Reply}
-use Rattle.model.specs.Sheet.{Sheet, Reading, refused, proper, _then_, readSheet}
+use Rattle.model.specs.Sheet.{Sheet, refused, proper, _then_, readSheet}
 use Rattle.model.specs.Choice.{IsChoice}
 use Rattle.model.specs.Book.{readBook}
 use Rattle.model.specs.Calls.{AfterRead, tablesOf, gave, bookAndRoom}

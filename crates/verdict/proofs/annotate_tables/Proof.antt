@@ -1,5 +1,5 @@
 -- `verdict::annotate_tables` meets its contract: the tables are those of the run graph, and so are the numbers. Assumes nothing.
-use mathlib.Core.Path.{_≡_, refl, sym, ap, ap₂, subst, _∙_}
+use mathlib.Core.Path.{_≡_, refl, ap, ap₂, subst, _∙_}
 use mathlib.Core.Bool.{true, false}
 use mathlib.Core.Logic.{⊎-elim}
 use mathlib.Core.List.{List}
@@ -38,7 +38,7 @@ mul-n c = omega (arith, size-is (c .before), vertices-few _ (c .before .before .
 
 returns : tie.Need-returns
 unfolding roomFor annotationShort annotated
-returns c = 
+returns c =
     let a = c .before .before .before .before .before .before .before .args in
     let s = sheetOf (a .sheet) in
     let e : roomFor s (chosen s (a .tables .now)) (a .annotation .now) ≡ refused AnnotationBufferTooShort = stop _ _ (lt-ltb _ _ (rw (size-is (c .before .before)) at (c .if1 .taken))) in
@@ -57,7 +57,7 @@ unfolding roomFor annotationShort
 room c = go _ _ (le-ltb _ _ (rw (size-is (c .before .before)) at (c .if1 .left)))
 
 number-requires : tie.Need-number-requires
-number-requires c κs = 
+number-requires c κs =
     let p = c .before .before .before .before .before .before .before .before .before .before .before .before .pre in
     let r = c .before .before .before .before .before .before .before .fill in
     (tables-sized _ _ (p .0) (p .1 .1) (r .result) (r .last .0) (r .last .1 .0) (r .ensures), record { d-long = refl; s-long = refl; f-long = refl })
@@ -76,7 +76,7 @@ copy-requires c κs = (c .before .before .before .before .before .before .before
 
 returns-2 : tie.Need-returns-2
 unfolding annotated annotatedBy
-returns-2 c = 
+returns-2 c =
     let a = c .before .before .before .before .before .before .before .before .before .before .before .before .before .before .before .args in
     let p = c .before .before .before .before .before .before .before .before .before .before .before .before .before .before .before .pre in
     let s = sheetOf (a .sheet) in
@@ -90,14 +90,14 @@ same-length c = search needs
 
 returns-3 : tie.Need-returns-3
 unfolding annotated annotatedBy
-returns-3 c = 
+returns-3 c =
     let a = c .before .before .before .before .before .before .before .before .before .before .before .before .before .before .before .before .before .before .before .before .args in
     let p = c .before .before .before .before .before .before .before .before .before .before .before .before .before .before .before .before .before .before .before .before .pre in
     let s = sheetOf (a .sheet) in
     let r = c .before .before .before .before .before .before .before .before .before .before .before .before .before .before .before .fill in
     let keeps = subst (λ (x : Answer). Says (r .result) (r .last .0) (r .last .1 .0) (c .before .before .before .before .before .before .before .number .last .0) x) (c .before .before .before .before .before .enum-told2 .given .1) (c .before .before .before .before .before .before .before .number .ensures .0) in
     let e : loops s (chosen s (a .tables .now)) ≡ false =
-        ⊎-elim (λ t. absurd (keeps .0 (tables-loop _ _ (p .0) (p .1 .1) (r .result) (r .last .0) (r .last .1 .0) (r .ensures) .1 (loops-exactly s _ (p .0) (p .1 .1) .0 t)))) (λ t. t) (bool-cases _) in
+    ⊎-elim (λ t. absurd (keeps .0 (tables-loop _ _ (p .0) (p .1 .1) (r .result) (r .last .0) (r .last .1 .0) (r .ensures) .1 (loops-exactly s _ (p .0) (p .1 .1) .0 t)))) (λ t. t) (bool-cases _) in
     rw (room (c .before .before .before .before .before .before .before .before .before .before .before .before .before), e)
     (refl, c .before .before .copy .ensures ∙ ap (λ (xs : List ℕ). front xs (a .annotation .now)) (keeps .1 ∙ tables-annotation _ _ (p .0) (p .1 .1) (r .result) (r .last .0) (r .last .1 .0) (r .ensures)))
 

@@ -47,16 +47,15 @@ loop-less : tie.Need-loop-less Inv-loop μ-loop
 loop-less c = omega arith
 
 loop-again : tie.Need-loop-again Inv-loop μ-loop
-loop-again c = 
+loop-again c =
     let a = c .before .before .before .args in
     let l = c .before .before .loop in
     let h = c .before .loop-test .taken in
     let more : take (l .k + 1) (a .numbers .now) ≡ take (l .k) (a .numbers .now) ++ (getD (a .numbers .now) (l .k) 0 ∷ []) = rw (add-one (l .k)) (take-suc (a .numbers .now) (l .k) 0 (omega (arith, h, c .before .before .before .pre .1))) in
-    let few = length-take-le (l .k) (a .numbers .now) (omega (arith, h, c .before .before .before .pre .1)) in
-    (
+    let few = length-take-le (l .k) (a .numbers .now) (omega (arith, h, c .before .before .before .pre .1)) in (
       omega (arith, h),
       rw (l .inv .1) (front-set (take (l .k) (a .numbers .now)) (a .annotation .now) (l .k) (getD (a .numbers .now) (l .k) 0) (sym few) (omega (arith, h, c .before .before .before .pre .0)))
-      ∙ ap (λ (xs : List ℕ). front xs (a .annotation .now)) (sym more)
+          ∙ ap (λ (xs : List ℕ). front xs (a .annotation .now)) (sym more),
     )
 
 same-length : tie.Need-same-length Inv-loop μ-loop

@@ -1,13 +1,10 @@
 -- `verdict::judge_for` meets its contract: the book is read, and then the annotation judged. Assumes nothing.
-use mathlib.Core.Path.{_≡_, refl, sym, ap, _∙_}
 use borrow.Author.Needs.{needs}
-use Rattle.model.specs.Sheet.{refused, _then_}
-use Rattle.model.specs.Book.{readBook}
+use Rattle.model.specs.Sheet.{_then_}
 use Rattle.model.specs.Calls.{judged}
 use Rattle.sheet.specs.Struct.{sheetOf}
 use Rattle.machine.proofs.Sheets.{sized}
-use Rattle.graph.specs.Filled.{chosen}
-use Rattle.verdict.specs.Room.{roomFor, bookFor}
+use Rattle.verdict.specs.Room.{bookFor}
 use Rattle.verdict.proofs.Read.{Chose, was-refused, was-read}
 use Rattle.verdict.proofs.judge_for.Statement.{statement}
 use Rattle.verdict.proofs.judge_for.Tie as tie
@@ -36,7 +33,7 @@ judge-tables-requires c κs = (c .before .before .before .before .before .before
 
 returns : tie.Need-returns
 unfolding bookFor _then_ judged
-returns c = 
+returns c =
     let a = c .before .before .before .before .before .before .before .args in
     let e = was-refused _ _ (c .before .before .before .before .of .ensures) (a .book .now) (c .before .before .before .read-for .result) (c .before .before .before .read-for .ensures) (c .before .answer .given .0 .0) (c .before .answer .given .1) in
     rw e

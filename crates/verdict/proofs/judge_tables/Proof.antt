@@ -1,8 +1,7 @@
 -- `verdict::judge_tables` meets its contract: the tables are those of the run graph. Assumes nothing.
-use mathlib.Core.Path.{_≡_, refl, sym, ap, ap₂, _∙_}
-use Prim.Native.Nat.{ℕ, _*_, _≤_}
+use mathlib.Core.Path.{_≡_, sym, ap₂, _∙_}
+use Prim.Native.Nat.{ℕ, _*_}
 use native.Mathlib.Omega.{arith}
-use lib.ListN.{length}
 use borrow.Author.Tests.{lt-ltb, le-ltb}
 use borrow.Author.Needs.{needs}
 use Rattle.model.specs.declared.Refusal.the-variants.{AnnotationBufferTooShort}
@@ -33,7 +32,7 @@ mul-if1 c = omega (arith, size-is (c .before), vertices-few _ (c .before .before
 
 returns : tie.Need-returns
 unfolding roomFor annotationShort judged
-returns c = 
+returns c =
     let a = c .before .before .before .before .before .before .before .args in
     let s = sheetOf (a .sheet) in
     let e : roomFor s (chosen s (a .tables .now)) (a .annotation .now) ≡ refused AnnotationBufferTooShort = stop _ _ (lt-ltb _ _ (rw (size-is (c .before .before)) at (c .if1 .taken))) in
@@ -52,7 +51,7 @@ unfolding roomFor annotationShort
 room c = go _ _ (le-ltb _ _ (rw (size-is (c .before .before)) at (c .if1 .left)))
 
 is-valid-requires : tie.Need-is-valid-requires
-is-valid-requires c κs = 
+is-valid-requires c κs =
     let p = c .before .before .before .before .before .before .before .before .before .pre in
     let r = c .before .before .before .before .fill in
     (tables-sized _ _ (p .0) (p .1 .1) (r .result) (r .last .0) (r .last .1 .0) (r .ensures), c .before .before .if1 .left)

@@ -1,0 +1,22 @@
+-- `export::soclethyme_annotate` meets its contract. Assumes nothing.
+use mathlib.Core.Path.{ap, _∙_}
+use borrow.Author.Needs.{needs}
+use Rattle.model.specs.Numbers.{verdictCode}
+use Rattle.export.proofs.soclethyme_annotate.Statement.{statement}
+use Rattle.export.proofs.soclethyme_annotate.Tie as tie
+
+annotate-requires : tie.Need-annotate-requires
+annotate-requires c κs = search needs
+
+verdict-code-requires : tie.Need-verdict-code-requires
+verdict-code-requires c κs = search needs
+
+same-length : tie.Need-same-length
+same-length c = search needs
+
+returns : tie.Need-returns
+returns c = (c .verdict-code .ensures ∙ ap verdictCode (c .before .before .before .annotate .ensures .0), c .before .before .before .annotate .ensures .1)
+
+pub soclethyme-annotate-spec : {M : Type 1} → statement M
+soclethyme-annotate-spec =
+    tie.close (tie.spec annotate-requires verdict-code-requires same-length returns)

@@ -1,0 +1,18 @@
+-- `export::soclethyme_judge` meets its contract. Assumes nothing.
+use mathlib.Core.Path.{ap, _∙_}
+use borrow.Author.Needs.{needs}
+use Rattle.model.specs.Numbers.{verdictCode}
+use Rattle.export.proofs.soclethyme_judge.Statement.{statement}
+use Rattle.export.proofs.soclethyme_judge.Tie as tie
+
+judge-requires : tie.Need-judge-requires
+judge-requires c κs = search needs
+
+verdict-code-requires : tie.Need-verdict-code-requires
+verdict-code-requires c κs = search needs
+
+returns : tie.Need-returns
+returns c = c .verdict-code .ensures ∙ ap verdictCode (c .before .judge .ensures)
+
+pub soclethyme-judge-spec : {M : Type 1} → statement M
+soclethyme-judge-spec = tie.close (tie.spec judge-requires verdict-code-requires returns)

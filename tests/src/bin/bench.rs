@@ -1,0 +1,140 @@
+//! Times annotating on the largest run graphs, by the library and by the
+//! independent run graph. Asserts that they agree, and nothing about time.
+
+#[path = "../../tests/verdict_ffi/mod.rs"]
+mod verdict_ffi;
+
+use std::hint::black_box;
+use std::time::{Duration, Instant};
+
+use soclethyme_tests::graph;
+use soclethyme_tests::rng::Rng;
+use soclethyme_tests::runs::{self, Clock, Run, LONGEST_CLOCK};
+use soclethyme_tests::sheet::{MOST_COMPOSED, MOST_EDGES, MOST_STATES};
+
+const SEED: u64 = 0x5EED_0004;
+
+const VERTICES: usize = MOST_COMPOSED * MOST_STATES;
+
+/// Each measurement goes on for this long, and for three calls at least.
+const SPAN: Duration = Duration::from_millis(300);
+
+struct Named {
+    name: String,
+    run: Run,
+}
+
+/// Random sheets with 64 edges, some of which loop and some of which do not.
+fn random_runs() -> Vec<Named> {
+    let mut rng = Rng::new(SEED);
+    let mut found = [0; 2];
+    let mut all = Vec::new();
+    while found != [3; 2] {
+        let mut sheet = runs::largest(&mut rng);
+        // Rejecting states that none leaves for a lower one do not loop; the
+        // edges that were dropped for that are replaced by repeated ones.
+        if rng.one_in(2) {
+            sheet.rejecting &= 0xFF00;
+            runs::climb(&mut rng, &mut sheet);
+            sheet.initial = 0;
+        }
+        while sheet.edges.len() < MOST_EDGES {
+            let repeated = *rng.pick(&sheet.edges);
+            sheet.edges.push(repeated);
+        }
+        let run = Run::new(&mut rng, sheet);
+        let mut buffer = vec![0; VERTICES];
+        let annotated = graph::annotate(&run.page.bytes, &run.book, &mut buffer);
+        let loops = annotated == Ok(false);
+        let reached = buffer.iter().filter(|number| **number != graph::BLANK);
+        let place = loops as usize;
+        if found[place] < 3 && (loops || reached.count() >= VERTICES / 2) {
+            found[place] += 1;
+            let kind = if loops { "loops" } else { "no loop" };
+            let name = format!("random {}, {kind}", found[place]);
+            all.push(Named { name, run });
+        }
+    }
+    all
+}
+
+/// Sheets on which numbers rise as high as they can.
+fn clock_runs() -> Vec<Named> {
+    let closed = Clock {
+        laps: 12,
+        closed: true,
+        ..LONGEST_CLOCK
+    };
+    let wide = Clock {
+        environment: 4,
+        processes: 2,
+        laps: 16,
+        ..LONGEST_CLOCK
+    };
+    let named = [
+        ("clock of 13 laps", LONGEST_CLOCK),
+        ("clock of 12 laps, closed", closed),
+        ("clock of 16 laps, 16 directions", wide),
+    ];
+    let runs = named.iter().map(|(name, clock)| Named {
+        name: name.to_string(),
+        run: clock.run(),
+    });
+    runs.collect()
+}
+
+/// Microseconds per call, the buffer kept as the call before left it.
+fn time(buffer: &mut [u16], mut call: impl FnMut(&mut [u16]) -> u32) -> f64 {
+    black_box(call(buffer));
+    let start = Instant::now();
+    let mut calls = 0;
+    while calls < 3 || start.elapsed() < SPAN {
+        black_box(call(black_box(&mut *buffer)));
+        calls += 1;
+    }
+    start.elapsed().as_secs_f64() * 1e6 / f64::from(calls)
+}
+
+fn independent(sheet: &[u8], book: &[u8], buffer: &mut [u16]) -> u32 {
+    match graph::annotate(sheet, book, buffer) {
+        Ok(true) => 0,
+        Ok(false) => 256,
+        Err(refusal) => refusal,
+    }
+}
+
+fn measure(named: &Named) {
+    let (sheet, book) = (&named.run.page.bytes, &named.run.book);
+    let mut by_library = vec![0; VERTICES];
+    let mut by_own = vec![0; VERTICES];
+    let answer = verdict_ffi::annotate(sheet, book, &mut by_library);
+    assert_eq!(answer, independent(sheet, book, &mut by_own));
+    assert_eq!(by_library, by_own);
+    if answer == 0 {
+        assert_eq!(verdict_ffi::judge(sheet, book, &by_library), 0);
+    }
+
+    let library = time(&mut by_library, |buffer| {
+        verdict_ffi::annotate(sheet, book, buffer)
+    });
+    let own = time(&mut by_own, |buffer| independent(sheet, book, buffer));
+    println!(
+        "{:<32} {:>8} {:>6} {:>14.1} {:>14.1} {:>8.2}",
+        named.name,
+        VERTICES,
+        answer,
+        library,
+        own,
+        library / own
+    );
+}
+
+fn main() {
+    println!(
+        "{:<32} {:>8} {:>6} {:>14} {:>14} {:>8}",
+        "annotate", "vertices", "answer", "library us", "independent us", "ratio"
+    );
+    for named in random_runs().iter().chain(&clock_runs()) {
+        measure(named);
+    }
+}
