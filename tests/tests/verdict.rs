@@ -266,7 +266,7 @@ fn compare_largest(tally: &mut Tally, rng: &mut Rng) {
     }
 }
 
-const LARGEST_RUNS: usize = 40;
+const LARGEST_RUNS: usize = 24;
 
 /// Clocks that stop after their laps, and others that start again.
 fn clocks(rng: &mut Rng) -> Vec<Clock> {
