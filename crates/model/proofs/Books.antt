@@ -15,7 +15,7 @@ use Rattle.model.specs.declared.Reply.{Reply}
 use Rattle.model.specs.Mask.{if}
 use Rattle.model.specs.Sheet.{Sheet, Reading, refused, proper, refuse_when_else_, _then_, readSheet}
 use Rattle.model.specs.Choice.{entries, IsChoice, fits}
-use Rattle.model.specs.RunGraph.{vertices}
+use Rattle.model.specs.RunGraph.{vertices, Keeps}
 use Rattle.model.specs.Computed.{loops, annotation, valid}
 use Rattle.model.specs.Book.{form, filled, bookLength, bookOf, wellFormed, entriesIn, bookFault, entryFault, readBook}
 use Rattle.model.specs.Calls.{front, annotationShort, bookShort, Chosen, bookAndRoom, judged, judgeOf, AfterAnnotate, annotatedBy, annotated, annotateOf, written, wrote, writeOf, AfterRead, tablesOf, gave, readOf}
@@ -26,6 +26,7 @@ use Rattle.model.proofs.Book.{holes, filled-front, filled-length, fille
 use Rattle.model.proofs.Parts.{parts-with-end}
 use Rattle.model.proofs.Loops.{loops-exactly, valid-exactly}
 use Rattle.model.proofs.Annotated.{annotates}
+use Rattle.model.proofs.Passes.{front-long, front-valid}
 
 -- ---- a book that is read
 pub record Read (s : Sheet) (book c : List ℕ) : Type 0 where
@@ -145,6 +146,11 @@ module _ (sheet : List ℕ) (s : Sheet) (is-proper : readSheet sheet ≡ proper 
   unfolding annotatedBy
   kept-is c ann e = ap (λ (b : Bool). annotatedBy record { sheet = s; choice = c } b ann) e
 
+  annotate-kept : (book ann c : List ℕ) → readBook s book ≡ proper c → vertices s ≤ length ann → Keeps s c
+      → annotateOf sheet book ann ≡ record { answer = Verdict.Found Yes; annotation = front (annotation s c) ann }
+  annotate-kept book ann c e l k =
+      annotate-is book ann c e l ∙ kept-is c ann (not-true-false (loops s c) (λ q. k (loops-exactly s c good (read-right s book c e .is-choice) .0 q)))
+
   gave-is : (c : List ℕ) {k : Reading (List ℕ)} → k ≡ proper c → gave k ≡ record { answer = Reply.Done; tables = tablesOf c }
   unfolding gave
   gave-is c e = ap gave e
@@ -168,9 +174,13 @@ module _ (sheet : List ℕ) (s : Sheet) (is-proper : readSheet sheet ≡ proper 
           λ q. loops-exactly s c good (r .is-choice) .0 (loop-no x (loops s c) ann .0 (sym (ap (λ (a : AfterAnnotate). a .answer) is) ∙ q)),
           λ o. ap (λ (a : AfterAnnotate). a .answer) is ∙ loop-no x (loops s c) ann .1 (loops-exactly s c good (r .is-choice) .1 o),
         );
-    annotates = λ book ann c e l k.
+    annotates = λ book ann c e l k. (annotation s c, annotates s c good (read-right s book c e .is-choice) k, annotate-kept book ann c e l k);
+    annotation-passes = λ book ann c e l k.
         let r : Read s book c = read-right s book c e in
-        (annotation s c, annotates s c good (r .is-choice) k, annotate-is book ann c e l ∙ kept-is c ann (not-true-false (loops s c) (λ q. k (loops-exactly s c good (r .is-choice) .0 q))));
+        let a : List ℕ = front (annotation s c) ann in
+        ap (λ (x : AfterAnnotate). judgeOf sheet book (x .annotation)) (annotate-kept book ann c e l k)
+        ∙ judge-is book a c e (front-long s c good (r .is-choice) k ann)
+        ∙ verdict-yes (valid s c a) .1 (front-valid s c good (r .is-choice) k ann);
     writes = write-is;
     reads-what-was-written = λ c choice. read-is (bookOf s c) ∙ gave-is c (written-is-read s c choice);
     writes-what-was-read = λ book d.
