@@ -117,6 +117,9 @@ pub struct Clock {
     pub states: u8,
     /// Whether the last lap leads into the first again.
     pub closed: bool,
+    /// Whether states are passed from high to low: the order that is hardest
+    /// for who goes through the vertices from low to high.
+    pub falling: bool,
 }
 
 /// The clock with the greatest number that 64 edges allow with T = 256.
@@ -127,6 +130,7 @@ pub const LONGEST_CLOCK: Clock = Clock {
     laps: 13,
     states: 16,
     closed: false,
+    falling: false,
 };
 
 impl Clock {
@@ -134,6 +138,21 @@ impl Clock {
     pub fn lap(&self) -> usize {
         let bounds = self.bounds[..self.processes].iter();
         bounds.map(|bound| *bound as usize).product()
+    }
+
+    /// The initial automaton state.
+    fn first_lap(&self) -> u8 {
+        if self.falling {
+            self.laps - 1
+        } else {
+            0
+        }
+    }
+
+    /// The state that follows in a ring of so many.
+    fn after(&self, state: u8, ring: u8) -> u8 {
+        let by = if self.falling { ring - 1 } else { 1 };
+        (state + by) % ring
     }
 
     /// Each process tells by its output that it is in its last state.
@@ -158,7 +177,7 @@ impl Clock {
             root: 0,
             processes: processes.collect(),
             states: self.states,
-            initial: 0,
+            initial: self.first_lap(),
             rejecting: ((1u32 << self.laps) - 1) as u16,
             edges: self.edges(),
         }
@@ -174,10 +193,11 @@ impl Clock {
                 on: 0,
                 off: self.output(process),
             }));
-            if self.closed || from + 1 < self.laps {
+            let to = self.after(from, self.laps);
+            if self.closed || to != self.first_lap() {
                 edges.push(Edge {
                     from,
-                    to: (from + 1) % self.laps,
+                    to,
                     on: self.outputs_below(self.processes),
                     off: 0,
                 });
@@ -192,11 +212,11 @@ impl Clock {
         for process in 0..self.processes {
             let bound = self.bounds[process];
             for state in 0..bound {
-                let last = state + 1 == bound;
-                entries.push(if last { self.output(process) } else { 0 });
+                let after = self.after(state, bound);
+                entries.push(if after == 0 { self.output(process) } else { 0 });
                 let waits = (1 << process) - 1;
                 entries.extend(vec![state; waits]);
-                entries.push((state + 1) % bound);
+                entries.push(after);
             }
         }
         let page = Page::new(self.sheet());

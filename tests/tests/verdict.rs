@@ -270,20 +270,25 @@ const LARGEST_RUNS: usize = 24;
 
 /// Clocks that stop after their laps, and others that start again.
 fn clocks(rng: &mut Rng) -> Vec<Clock> {
-    let mut clocks = vec![LONGEST_CLOCK];
-    clocks.push(Clock {
-        laps: 12,
-        closed: true,
-        ..LONGEST_CLOCK
-    });
-    for closed in [false, true] {
+    let mut clocks = Vec::new();
+    for falling in [false, true] {
+        let longest = Clock {
+            falling,
+            ..LONGEST_CLOCK
+        };
+        clocks.push(longest);
         clocks.push(Clock {
+            laps: 12,
+            closed: true,
+            ..longest
+        });
+        clocks.extend([false, true].map(|closed| Clock {
             environment: 4,
             processes: 2,
             laps: 16,
             closed,
-            ..LONGEST_CLOCK
-        });
+            ..longest
+        }));
     }
     for _ in 0..60 {
         let processes = rng.within(1, 3);
@@ -295,6 +300,7 @@ fn clocks(rng: &mut Rng) -> Vec<Clock> {
             laps: rng.within(1, states) as u8,
             states: states as u8,
             closed: rng.one_in(3),
+            falling: rng.one_in(2),
         });
     }
     clocks

@@ -6,7 +6,7 @@ use Prim.Native.Nat.{ℕ, zero, suc, _+_, _-_, _%_, _<_, _≤_}
 use native.Mathlib.Numerals.{add-one}
 use native.Mathlib.Omega.{arith}
 use lib.Dec.{eqb}
-use lib.ListN.{length, getD, take, drop, set, replicate, length-append, length-drop}
+use lib.ListN.{length, length-map, getD, take, drop, set, replicate, length-append, length-drop}
 use lib.Seq.{take-suc, take-add, drop-drop, take-at, drop-at, set-at, drop-cons, length-take-le, drop-nil}
 use Rattle.theory.proofs.Bools.{and-is}
 use Rattle.model.specs.declared.Refusal.{Refusal}
@@ -75,12 +75,8 @@ fits-turn words c n k h l m = rw (state-next words n k h l, drop-cons c k 0 m, a
 pub places-more : (words : List ℕ) (k : ℕ) → k < length words → placesOf words (k + 1) ≡ placesOf words k ++ (placeOf (getD words k 0) ∷ [])
 places-more words k h = rw (add-one k, take-suc words k 0 h) (map-append placeOf (take k words) (getD words k 0 ∷ []))
 
-length-map : {A B : Type 0} (f : A → B) (l : List A) → length (map f l) ≡ length l
-length-map f [] = refl
-length-map f (x ∷ l) = ap suc (length-map f l)
-
 pub places-length : (words : List ℕ) (k : ℕ) → k ≤ length words → length (placesOf words k) ≡ k
-places-length words k h = length-map placeOf (take k words) ∙ length-take-le k words h
+places-length words k h = length-map (take k words) placeOf ∙ length-take-le k words h
 
 entries-snoc : (ps : List Place) (p : Place) (b : List ℕ) → length ps < length b → entriesIn (ps ++ (p ∷ [])) b ≡ entriesIn ps b ++ entriesIn (p ∷ []) (getD b (length ps) 0 ∷ [])
 unfolding entriesIn

@@ -5,7 +5,7 @@ use Prim.Native.Nat.{ℕ, zero, suc, _+_, _-_, _*_, _/_, _%_, _^_, _<_, _≤_}
 use native.Mathlib.Numerals.{add-one}
 use native.Mathlib.Nat.{add-zero, add-assoc, suc-mul, mul-le-mul, mod-eq-of-lt}
 use native.Mathlib.Omega.{arith}
-use lib.ListN.{length, take, set, replicate, length-set, replicate-append-replicate}
+use lib.ListN.{length, length-map, take, set, replicate, length-set, replicate-append-replicate}
 use lib.Seq.{take-suc-set, length-take-le}
 use borrow.Author.Tests.{eq-eqb, ne-eqb}
 use Rattle.model.specs.Mask.{if, count}
@@ -141,13 +141,9 @@ unfolding allRecords
 places-turn i p ps end =
     rw (add-one i) (ap (map placeCode) (append-assoc (records i p (p .bound) 0) (allRecords (suc i) ps) end) ∙ map-append placeCode (records i p (p .bound) 0) (allRecords (suc i) ps ++ end))
 
-length-map : {A B : Type 0} (f : A → B) (l : List A) → length (map f l) ≡ length l
-length-map f [] = refl
-length-map f (x ∷ l) = ap suc (length-map f l)
-
 -- the words that were put are as many as what they say
 pub put-length : {A : Type 0} (f : A → ℕ) (l : List A) (words : List ℕ) (at : ℕ) → at ≤ length words → take at words ≡ map f l → at ≡ length l
-put-length f l words at h e = sym (length-take-le at words h) ∙ ap length e ∙ length-map f l
+put-length f l words at h e = sym (length-take-le at words h) ∙ ap length e ∙ length-map l f
 
 -- x turns of w words, and one more, of at most b turns of m words
 pub turn-fits : (x n w b m : ℕ) → x < n → n ≤ b → w ≤ m → x * w + w ≤ b * m

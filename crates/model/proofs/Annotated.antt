@@ -7,13 +7,13 @@ use native.Mathlib.Nat.{mul-comm, mul-le-mul-left, mod-lt, suc-mul, pow-suc, div
 use native.Mathlib.Omega.{arith}
 use lib.Dec.{eqb}
 use lib.Arith.{digits-div}
-use lib.ListN.{length, length-map}
+use lib.ListN.{length}
 use lib.Count.{ones, ones-step}
-use Rattle.theory.specs.Lists.{one, tab}
+use Rattle.theory.specs.Lists.{one}
 use Rattle.theory.specs.Lists
 use Rattle.theory.specs.Graph.{rejecting-vertices}
-use Rattle.theory.specs.Annotation.{rounds, after, figure}
 use Rattle.theory.specs.Annotation
+use Rattle.theory.proofs.AnnotationLaws.{annotation-length as theory-length}
 use Rattle.model.specs.Mask.{bit, count}
 use Rattle.model.specs.Sheet.{Sheet}
 use Rattle.model.specs.Compose.{T}
@@ -26,20 +26,9 @@ use Rattle.model.proofs.RunGraph.{T-pos}
 use Rattle.model.proofs.Loops.{most-entries, blank-elsewhere, few-entries}
 
 -- ---- its length
-tab-length : (h : ℕ → ℕ) (n i : ℕ) → length (tab h n i) ≡ n
-unfolding tab
-tab-length h zero i = refl
-tab-length h (suc n) i = ap suc (tab-length h n (suc i))
-
-module _ (s : Sheet) (c : List ℕ) where
-  rounds-length : (j : ℕ) → length (rounds (runGraph s c) 0 j) ≡ vertices s
-  unfolding rounds after runGraph
-  rounds-length zero = tab-length _ (vertices s) 0
-  rounds-length (suc j) = tab-length _ (vertices s) 0
-
-  annotation-length : length (annotation s c) ≡ vertices s
-  unfolding annotation Annotation.annotation
-  annotation-length = length-map (rounds (runGraph s c) 0 (runGraph s c .size)) (figure blank) ∙ rounds-length (runGraph s c .size)
+annotation-length : (s : Sheet) (c : List ℕ) → length (annotation s c) ≡ vertices s
+unfolding annotation runGraph
+annotation-length s c = theory-length (runGraph s c) 0 blank
 
 -- ---- how many vertices reject
 one-bit : (r : ℕ) → r < 2 → one (eqb r 1) ≡ r

@@ -60,27 +60,35 @@ fn random_runs() -> Vec<Named> {
 
 /// Sheets on which numbers rise as high as they can.
 fn clock_runs() -> Vec<Named> {
-    let closed = Clock {
-        laps: 12,
-        closed: true,
-        ..LONGEST_CLOCK
-    };
-    let wide = Clock {
-        environment: 4,
-        processes: 2,
-        laps: 16,
-        ..LONGEST_CLOCK
-    };
-    let named = [
-        ("clock of 13 laps", LONGEST_CLOCK),
-        ("clock of 12 laps, closed", closed),
-        ("clock of 16 laps, 16 directions", wide),
-    ];
-    let runs = named.iter().map(|(name, clock)| Named {
-        name: name.to_string(),
-        run: clock.run(),
-    });
-    runs.collect()
+    let mut all = Vec::new();
+    for falling in [false, true] {
+        let longest = Clock {
+            falling,
+            ..LONGEST_CLOCK
+        };
+        let closed = Clock {
+            laps: 12,
+            closed: true,
+            ..longest
+        };
+        let wide = Clock {
+            environment: 4,
+            processes: 2,
+            laps: 16,
+            ..longest
+        };
+        let order = if falling { "falling" } else { "rising" };
+        let named = [
+            ("13 laps", longest),
+            ("12 laps, closed", closed),
+            ("16 laps, 16 directions", wide),
+        ];
+        all.extend(named.map(|(name, clock)| Named {
+            name: format!("{order} clock, {name}"),
+            run: clock.run(),
+        }));
+    }
+    all
 }
 
 /// Microseconds per call, the buffer kept as the call before left it.
@@ -119,7 +127,7 @@ fn measure(named: &Named) {
     });
     let own = time(&mut by_own, |buffer| independent(sheet, book, buffer));
     println!(
-        "{:<32} {:>8} {:>6} {:>14.1} {:>14.1} {:>8.2}",
+        "{:<38} {:>8} {:>6} {:>14.1} {:>14.1} {:>8.2}",
         named.name,
         VERTICES,
         answer,
@@ -131,7 +139,7 @@ fn measure(named: &Named) {
 
 fn main() {
     println!(
-        "{:<32} {:>8} {:>6} {:>14} {:>14} {:>8}",
+        "{:<38} {:>8} {:>6} {:>14} {:>14} {:>8}",
         "annotate", "vertices", "answer", "library us", "independent us", "ratio"
     );
     for named in random_runs().iter().chain(&clock_runs()) {
