@@ -31,8 +31,8 @@ fn random_runs() -> Vec<Named> {
     let mut all = Vec::new();
     while found != [3; 2] {
         let mut sheet = runs::largest(&mut rng);
-        // Rejecting states that none leaves for a lower one do not loop; the
-        // edges that were dropped for that are replaced by repeated ones.
+        // A sheet that climbs does not loop. Edges that it lost are made up
+        // for by repeated ones, which change no vertex.
         if rng.one_in(2) {
             sheet.rejecting &= 0xFF00;
             runs::climb(&mut rng, &mut sheet);
