@@ -5,6 +5,7 @@ use Rattle.model.specs.declared.Reply.{Reply}
 use Rattle.model.specs.Numbers.{number}
 use Rattle.model.specs.Calls.{AfterRead, AfterPart}
 
+-- the new tables where reading was not refused
 unfoldable pub tablesBy : Reply → List ℕ → List ℕ → List ℕ
 tablesBy Reply.Done new old = new
 tablesBy (Reply.Refused r) new old = old
@@ -13,6 +14,7 @@ tablesBy (Reply.Refused r) new old = old
 abbrev pub tablesAfter : AfterRead → List ℕ → List ℕ
 tablesAfter a old = tablesBy (a .answer) (a .tables) old
 
+-- the number of a part, by the answer
 unfoldable pub partBy : Reply → ℕ → ℕ → ℕ
 partBy Reply.Done start end = end * 65536 + start
 partBy (Reply.Refused r) start end = number r

@@ -13,6 +13,7 @@ unfoldable pub placeOf : ℕ → Place
 placeOf zero = entry
 placeOf (suc x) = due (x % 256)
 
+-- the word of a byte of a book
 unfoldable pub placeCode : Place → ℕ
 placeCode entry = 0
 placeCode (due x) = suc x
@@ -22,6 +23,7 @@ unfoldable pub kindOf : ℕ → Entry
 unfolding if
 kindOf k = if (eqb (k % 2) 0) (output (k / 2)) (next (k / 2))
 
+-- the word of an entry of a choice
 unfoldable pub kindCode : Entry → ℕ
 kindCode (output m) = m * 2
 kindCode (next b) = b * 2 + 1

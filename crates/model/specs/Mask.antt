@@ -5,6 +5,7 @@ use Prim.Native.Nat.{ℕ, zero, suc, _+_, _*_, _/_, _%_, _^_}
 use lib.Dec.{eqb, leb}
 use lib.Bits.{bitAnd}
 use lib.Count.{ones}
+-- bit i of the mask m is set
 unfoldable pub use Rattle.theory.specs.Search.{bit}
 
 -- a where the test passes, and otherwise b

@@ -59,6 +59,7 @@ unfolding withEdges
 behind s (refused r) = refused r
 behind s (proper es) = proper (withEdges s es)
 
+-- the end
 unfoldable pub endFrom : List ℕ → ℕ → Sheet → Reading Sheet
 unfolding behind readEnd
 endFrom b i s = behind s (readEnd b i)

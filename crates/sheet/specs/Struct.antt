@@ -39,6 +39,7 @@ sheetOf s = record {
   edges = edgesOf (s .edges) (s .from) (s .to) (s .on) (s .off);
 }
 
+-- the reading, by the answer
 unfoldable pub readingAs : Reply → Sheet → model.Reading model.Sheet
 unfolding sheetOf
 readingAs Reply.Done s = model.proper (sheetOf s)
