@@ -4,11 +4,12 @@ ghost use mathlib.Core.Bool.{not};
 ghost use mathlib.Core.List.{_∷_, [], _++_};
 ghost use Prim.Native.Nat.{_+_, _<_, _≤_};
 ghost use lib.ListN.{length, take, drop};
-ghost use Rattle.model.specs.Choice.{may, fits};
+ghost use Rattle.model.specs.Choice.{fits};
 ghost use Rattle.model.specs.Book.{wellFormed, entriesIn, filled};
 ghost use Rattle.model.specs.Calls.{front};
 ghost use Rattle.model.proofs.Book.{holes};
-ghost use Rattle.layout.specs.Codes.{placeOf, kindOf, placesOf, kindsOf};
+ghost use Rattle.layout.specs.Codes.{placeOf, placesOf, kindsOf};
+use layout::may_be;
 
 // The byte is not the one that is due.
 fn differs(place: u16, byte: u8) -> bool
@@ -63,17 +64,6 @@ pub fn take_entries(tables: &mut [u8], places: &[u16], n: usize, book: &[u8])
         e = keep(tables, e, places[k], book[k]);
         k += 1;
     }
-}
-
-// The entry may have this value.
-fn may_be(kind: u16, value: u8) -> bool
-    ensures { λ r. ⌜ r ≡ may (kindOf kind) value ⌝ }
-{
-    let most = kind / 2;
-    if kind % 2 == 0 {
-        return value as u16 & most == value as u16;
-    }
-    (value as u16) < most
 }
 
 // 11: an entry has a value that it may not have.

@@ -7,7 +7,7 @@ ghost use Rattle.model.specs.Choice as choice;
 ghost use Rattle.model.specs.Book as book;
 ghost use Rattle.machine.specs.Struct.{sheetWith, processIn};
 ghost use Rattle.machine.specs.Struct.{Sized as Whole};
-ghost use Rattle.layout.specs.Codes.{placeCode, kindCode, placesOf, kindsOf, Puts};
+ghost use Rattle.layout.specs.Codes.{placeCode, kindCode, kindOf, placesOf, kindsOf, Puts};
 use machine::Architecture;
 
 // The mark of a book's record.
@@ -153,4 +153,15 @@ pub fn fill_kinds(kinds: &mut [u16], a: Architecture) -> usize
         i += 1;
     }
     at
+}
+
+// The entry may have this value.
+pub fn may_be(kind: u16, value: u8) -> bool
+    ensures { λ r. ⌜ r ≡ choice.may (kindOf kind) value ⌝ }
+{
+    let most = kind / 2;
+    if kind % 2 == 0 {
+        return value as u16 & most == value as u16;
+    }
+    (value as u16) < most
 }

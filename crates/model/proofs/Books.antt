@@ -146,7 +146,7 @@ module _ (sheet : List ℕ) (s : Sheet) (is-proper : readSheet sheet ≡ proper 
   unfolding annotatedBy
   kept-is c ann e = ap (λ (b : Bool). annotatedBy record { sheet = s; choice = c } b ann) e
 
-  annotate-kept : (book ann c : List ℕ) → readBook s book ≡ proper c → vertices s ≤ length ann → Keeps s c
+  pub annotate-kept : (book ann c : List ℕ) → readBook s book ≡ proper c → vertices s ≤ length ann → Keeps s c
       → annotateOf sheet book ann ≡ record { answer = Verdict.Found Yes; annotation = front (annotation s c) ann }
   annotate-kept book ann c e l k =
       annotate-is book ann c e l ∙ kept-is c ann (not-true-false (loops s c) (λ q. k (loops-exactly s c good (read-right s book c e .is-choice) .0 q)))

@@ -1,17 +1,14 @@
--- The list of choices has exactly the choices, each before those that come later.
+-- The list of choices has exactly the choices, each once, in order.
 use mathlib.Core.Path.{_≡_, refl, sym, ap, subst}
-use mathlib.Core.Logic.{_⊎_, inl, inr, _↔_, ⊎-elim}
+use mathlib.Core.Logic.{_⊎_, inl, inr, ⊎-elim}
 use mathlib.Core.List.{List, [], _∷_, _++_, map, List·Memᴰ, List·Memᴰ·head, List·Memᴰ·tail, List·Memᴰ·not-nil, List·Memᴰ·cases-cons, List·Memᴰ·append-cases}
 use Prim.Native.Nat.{ℕ}
-use Rattle.model.specs.Sheet.{Sheet}
-use Rattle.model.specs.Choice.{Entry, values, entries, Fits, done, also, IsChoice, Before, lower, later, each, choices}
-use Rattle.model.proofs.Sheet.{Good}
+use native.Mathlib.Omega.{arith}
+use Rattle.model.specs.Sheet.{Sheet, proper, readSheet}
+use Rattle.model.specs.Choice.{Entry, values, entries, Fits, done, also, Before, lower, later, empty, then, Ordered, Once, each, choices}
+use Rattle.model.specs.Demands.{order-of-choices}
+use Rattle.model.proofs.Sheet.{sheet-good}
 use Rattle.model.proofs.First.{Rising, flat, up, AllSmall, values-rising, values-has, values-may, entries-small}
-
--- each before all that follow
-pub data Ordered : List (List ℕ) → Type 0 where
-  empty : Ordered []
-  then : {c : List ℕ} {cs : List (List ℕ)} → ((d : List ℕ) → List·Memᴰ d cs → Before c d) → Ordered cs → Ordered (c ∷ cs)
 
 heads-sound : (v : ℕ) (cs : List (List ℕ)) (c : List ℕ) → List·Memᴰ c (map (λ d. v ∷ d) cs) → (d : List ℕ) × List·Memᴰ d cs × (c ≡ v ∷ d)
 heads-sound v [] c m = absurd (List·Memᴰ·not-nil m)
@@ -85,8 +82,18 @@ unfolding choices
 choices-ordered [] = then (λ d m. absurd (List·Memᴰ·not-nil m)) empty
 choices-ordered (e ∷ es) = each-ordered (choices es) (values-rising e) (choices-ordered es)
 
-pub all-choices : (s : Sheet) (c : List ℕ) → Good s → List·Memᴰ c (choices (entries s)) ↔ IsChoice s c
-all-choices s c good = (λ m. listed-fits (entries s) c m, λ f. fits-listed (entries s) c (entries-small s good) f)
+-- ---- each once
+before-differs : {c d : List ℕ} → Before c d → ¬ (c ≡ d)
+before-differs (lower {v = v} {w = w} l) e = let z : v ≡ w = cc in omega arith
+before-differs (later {c = c} {d = d} b) e = let z : c ≡ d = cc in before-differs b z
 
-pub in-order : (s : Sheet) → Ordered (choices (entries s))
-in-order s = choices-ordered (entries s)
+ordered-once : {cs : List (List ℕ)} → Ordered cs → Once cs
+ordered-once empty = empty
+ordered-once (then h o) = then (λ d m. before-differs (h d m)) (ordered-once o)
+
+pub choices-in-order : (sheet : List ℕ) (s : Sheet) → readSheet sheet ≡ proper s → order-of-choices s
+choices-in-order sheet s is-proper = record {
+  exactly = λ c. (λ m. listed-fits (entries s) c m, λ f. fits-listed (entries s) c (entries-small s (sheet-good sheet s is-proper)) f);
+  once = ordered-once (choices-ordered (entries s));
+  ordered = choices-ordered (entries s);
+}

@@ -2,17 +2,17 @@
 use mathlib.Core.Path.{_≡_, refl, sym, ap, _∙_, subst}
 use mathlib.Core.List.{List, [], _∷_, _++_, append-assoc, List·Memᴰ·head, List·Memᴰ·tail}
 use Prim.Native.Nat.{ℕ, zero, suc, _+_, _-_, _*_, _^_, _≤_, min}
-use native.Mathlib.Nat.{add-mul, suc-mul, zero-mul, zero-add, suc-add}
+use native.Mathlib.Nat.{add-mul, zero-add, suc-add}
 use native.Mathlib.Omega.{arith}
-use lib.Bits.{bitAnd, and-zero-l}
-use lib.ListN.{length, take, drop, replicate, take-append-drop, replicate-append-replicate}
-use borrow.Author.Tests.{ltb-true, lt-ltb, eq-eqb}
-use Rattle.model.specs.Mask.{within, count}
+use lib.ListN.{length, take, drop, replicate, take-append-drop}
+use borrow.Author.Tests.{ltb-true, lt-ltb}
+use Rattle.model.specs.Mask.{count}
 use Rattle.model.specs.Sheet.{Process, Sheet}
 use Rattle.model.specs.Compose.{rowLength, processLength}
 use Rattle.model.specs.Choice.{Entry, next, may, row, times, rows, entries, Fits, done, also, IsChoice, lowered, padRows, padded}
 use Rattle.model.proofs.Choice.{row-length}
 use Rattle.model.proofs.Sheet.{GoodProcesses, Good}
+use Rattle.model.proofs.Entries.{times-have, MayZero, zeros, output-zero, next-zero}
 use Rattle.model.proofs.Compose.{fits-drop, times-length}
 
 fits-append : {es fs : List Entry} {c d : List ℕ} → Fits es c → Fits fs d → Fits (es ++ fs) (c ++ d)
@@ -36,29 +36,10 @@ fits-times (suc n) es fs {c} w f =
     subst (Fits (fs ++ times n fs)) (take-append-drop (length es) c) (fits-append (w _ (fits-take es (times n es) f)) (fits-times n es fs w (fits-drop es f)))
 
 -- ---- rows of zeros
-zero-nexts : (k n : ℕ) → 1 ≤ n → Fits (replicate k (next n)) (replicate k 0)
-unfolding may
-zero-nexts zero n l = done
-zero-nexts (suc k) n l = also (lt-ltb 0 n l) (zero-nexts k n l)
-
-zero-row : (p : Process) → 1 ≤ p .bound → Fits (row p) (replicate (rowLength p) 0)
-unfolding row rowLength may within
-zero-row p l =
-    subst (λ (n : ℕ). Fits (row p) (replicate n 0)) (one-more (2 ^ count (p .inputs)))
-    (also (eq-eqb (bitAnd 0 (p .outputs)) 0 (and-zero-l (p .outputs))) (zero-nexts (2 ^ count (p .inputs)) (p .bound) l))
-  where
-    one-more : (n : ℕ) → suc n ≡ 1 + n
-    one-more n = omega arith
-
-zero-rows : (n : ℕ) (es : List Entry) (k : ℕ) → Fits es (replicate k 0) → Fits (times n es) (replicate (n * k) 0)
-unfolding times
-zero-rows zero es k f = subst (λ (n : ℕ). Fits [] (replicate n 0)) (sym (zero-mul k)) done
-zero-rows (suc n) es k f =
-    subst (Fits (es ++ times n es)) (replicate-append-replicate k (n * k) 0 ∙ ap (λ (m : ℕ). replicate m 0) (shift n))
-    (fits-append f (zero-rows n es k f))
-  where
-    shift : (n : ℕ) → k + n * k ≡ suc n * k
-    shift n = omega (arith, suc-mul n k)
+zero-rows : (n : ℕ) (p : Process) → 1 ≤ p .bound → Fits (times n (row p)) (replicate (n * rowLength p) 0)
+zero-rows n p l =
+    subst (λ (k : ℕ). Fits (times n (row p)) (replicate k 0)) (times-length n (row p) ∙ ap (λ (k : ℕ). n * k) (row-length p))
+    (zeros (times n (row p)) (times-have MayZero p (output-zero (p .outputs)) (next-zero (p .bound) l) n))
 
 times-add : (m k : ℕ) (es : List Entry) → times (m + k) es ≡ times m es ++ times k es
 unfolding times
@@ -77,7 +58,7 @@ module _ (p : Process) (some : 1 ≤ p .bound) (m k : ℕ) (whole : m + k ≡ p 
   process-wide : (c : List ℕ) → Fits (times m (row low)) c → Fits (times (p .bound) (row p)) (c ++ replicate (k * rowLength p) 0)
   process-wide c f =
       subst (λ (es : List Entry). Fits es (c ++ replicate (k * rowLength p) 0)) (sym (times-add m k (row p)) ∙ ap (λ (n : ℕ). times n (row p)) whole)
-      (fits-append (fits-times m (row low) (row p) row-wide f) (zero-rows k (row p) (rowLength p) (zero-row p some)))
+      (fits-append (fits-times m (row low) (row p) row-wide f) (zero-rows k p some))
 
   low-length : length (times m (row low)) ≡ m * rowLength p
   unfolding low rowLength

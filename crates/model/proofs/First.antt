@@ -2,22 +2,23 @@
 use mathlib.Core.Path.{_≡_, refl, sym, ap, _∙_, subst}
 use mathlib.Core.Bool.{Bool, true, false}
 use mathlib.Core.Logic.{_⊎_, inl, inr, ⊎-elim}
-use mathlib.Core.List.{List, [], _∷_, map, List·Memᴰ, List·Memᴰ·head, List·Memᴰ·tail, List·Memᴰ·not-nil, List·Memᴰ·cases-cons, List·Memᴰ·append-cases}
+use mathlib.Core.List.{List, [], _∷_, map, List·Memᴰ, List·Memᴰ·head, List·Memᴰ·tail, List·Memᴰ·not-nil, List·Memᴰ·cases-cons}
 use mathlib.Core.Option.{Option, none, some}
-use Prim.Native.Nat.{ℕ, zero, suc, _^_, _≤_, _<_}
+use Prim.Native.Nat.{ℕ, zero, suc, _≤_, _<_}
 use native.Mathlib.Omega.{arith}
 use lib.Bits.{bitAnd, and-le-r}
 use lib.Pow.{pow-mono}
-use lib.ListN.{length, replicate}
+use lib.ListN.{length}
 use borrow.Author.Tests.{ltb-true, eqb-true}
 use Rattle.theory.specs.Lists.{keep, put}
 use Rattle.theory.proofs.ListLaws.{keep-sound, keep-complete}
-use Rattle.model.specs.Mask.{if, within, count, from}
-use Rattle.model.specs.Sheet.{Process, Sheet}
-use Rattle.model.specs.Choice.{Entry, output, next, may, values, row, times, rows, entries, Fits, done, also, Before, lower, later, choices}
+use Rattle.model.specs.Mask.{if, within, from}
+use Rattle.model.specs.Sheet.{Sheet}
+use Rattle.model.specs.Choice.{Entry, may, values, entries, Fits, done, also, Before, lower, later, choices}
 use Rattle.model.specs.Computed.{first}
 use Rattle.model.proofs.Order.{or-else, with-head, try, settle, settle-first}
-use Rattle.model.proofs.Sheet.{GoodProcess, GoodProcesses, Good}
+use Rattle.model.proofs.Sheet.{GoodProcess, Good}
+use Rattle.model.proofs.Entries.{entries-have}
 use Rattle.model.proofs.RunGraph.{from-has}
 
 -- ---- lists that rise
@@ -165,32 +166,12 @@ within-le : (v m : ℕ) → within v m ≡ true → v ≤ m
 unfolding within
 within-le v m e = omega (arith, eqb-true (bitAnd v m) v e, and-le-r v m)
 
-replicate-is : (n : ℕ) (x e : Entry) → List·Memᴰ e (replicate n x) → e ≡ x
-replicate-is zero x e m = absurd (List·Memᴰ·not-nil m)
-replicate-is (suc n) x e (List·Memᴰ·head q) = q
-replicate-is (suc n) x e (List·Memᴰ·tail m) = replicate-is n x e m
-
-times-has : (n : ℕ) (es : List Entry) (e : Entry) → List·Memᴰ e (times n es) → List·Memᴰ e es
-unfolding times
-times-has zero es e m = absurd (List·Memᴰ·not-nil m)
-times-has (suc n) es e m = ⊎-elim (λ i. i) (λ i. times-has n es e i) (List·Memᴰ·append-cases es m)
-
-module _ (variables : ℕ) (few : variables ≤ 8) where
-  row-small : (p : Process) → GoodProcess variables p → AllSmall (row p)
-  unfolding row may
-  row-small p g e m v h =
-      ⊎-elim
-      (λ (q : e ≡ output (p .outputs)). omega (arith, within-le v (p .outputs) (subst (λ (x : Entry). may x v ≡ true) q h), g .outputs-known, pow-mono few))
-      (λ i. let q : e ≡ next (p .bound) = replicate-is (2 ^ count (p .inputs)) (next (p .bound)) e i in omega (arith, ltb-true v (p .bound) (subst (λ (x : Entry). may x v ≡ true) q h), g .few-states))
-      (List·Memᴰ·cases-cons m)
-
-  rows-small : (ps : List Process) → GoodProcesses variables ps → AllSmall (rows ps)
-  unfolding rows
-  rows-small [] g e m = absurd (List·Memᴰ·not-nil m)
-  rows-small (p ∷ ps) g e m =
-      ⊎-elim (λ i. row-small p (g p (List·Memᴰ·head refl)) e (times-has (p .bound) (row p) e i)) (λ i. rows-small ps (λ q j. g q (List·Memᴰ·tail j)) e i)
-      (List·Memᴰ·append-cases (times (p .bound) (row p)) m)
-
 pub entries-small : (s : Sheet) → Good s → AllSmall (entries s)
-unfolding entries
-entries-small s good = rows-small (s .variables) (good .few-variables) (s .processes) (good .processes-good)
+unfolding may
+entries-small s good =
+    entries-have Small s
+    (λ p i.
+    let g : GoodProcess (s .variables) p = good .processes-good p i in (
+      λ v h. omega (arith, within-le v (p .outputs) h, g .outputs-known, pow-mono (good .few-variables)),
+      λ v h. omega (arith, ltb-true v (p .bound) h, g .few-states),
+    ))

@@ -1,15 +1,14 @@
 -- The annotation of a choice that keeps the sheet is valid, also at the front of a longer buffer.
 use mathlib.Core.Path.{_≡_, sym, _∙_}
-use mathlib.Core.Bool.{Bool, true, false}
+use mathlib.Core.Bool.{true}
 use mathlib.Core.List.{List}
-use Prim.Native.Nat.{ℕ, zero, suc, _≤_, _<_}
+use Prim.Native.Nat.{ℕ, _≤_, _<_}
 use native.Mathlib.Nat.{mul-le-mul}
 use native.Mathlib.Omega.{arith}
 use lib.ListN.{length, drop, getD, length-append, List·getD-append}
-use Rattle.theory.specs.Lists.{one}
-use Rattle.theory.specs.Lists
 use Rattle.theory.specs.Graph.{rejecting-vertices}
 use Rattle.theory.specs.Annotation
+use Rattle.theory.proofs.ListLaws.{count-le}
 use Rattle.theory.proofs.ValidLaws.{annotation-test}
 use Rattle.model.specs.Sheet.{Sheet}
 use Rattle.model.specs.Compose.{T}
@@ -23,16 +22,6 @@ use Rattle.model.proofs.Loops.{loop-from, valid-exactly}
 use Rattle.model.proofs.Annotated.{annotates}
 
 -- ---- the numbers stay below blank
-one-le : (b : Bool) → one b ≤ 1
-unfolding one
-one-le true = omega arith
-one-le false = omega arith
-
-count-le : (p : ℕ → Bool) (n : ℕ) → Lists.count p n ≤ n
-unfolding Lists.count
-count-le p zero = omega arith
-count-le p (suc n) = omega (arith, one-le (p n), count-le p n)
-
 below-blank : (s : Sheet) (c : List ℕ) → Good s → rejecting-vertices (runGraph s c) < blank
 unfolding rejecting-vertices runGraph vertices T
 below-blank s c good = omega (arith, count-le (runGraph s c .rejects) (vertices s), mul-le-mul (good .few-states) (good .few-composed))

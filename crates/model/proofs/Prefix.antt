@@ -14,7 +14,7 @@ use Rattle.model.specs.declared.Refusal.{Refusal}
 use Rattle.model.specs.declared.Refusal.the-variants.{SheetTooShort, WrongMark, BadArchitecture, BadProcess, NoOwnerOrTooMany, BadAutomaton, BadEdge}
 use Rattle.model.specs.Mask.{if}
 use Rattle.model.specs.Sheet.{Process, Reading, proper, byte, short, marked, EN, ED, AU, PR, AR, arFault, prFault, allFault, auFault, edFault, processAt, edgeAt, readEnd, readEdge, readEdges, readAutomaton, readProcess, readProcesses, readSheet, refuse_when_else_, _then_}
-use Rattle.model.specs.Calls.{reply, checkOf}
+use Rattle.model.specs.Calls.{reply, checkOf, findSheet, findOf}
 
 -- ---- equal tests with equal rests are read alike
 infixr 20 alike_when_else_
@@ -123,6 +123,13 @@ module _ (a b : List ℕ) (same : Same a b) where
       alike BadArchitecture when (λ j. arFault (f .second j) (f .third j) (f .fourth j)) else
       processes-same (byte a 2) (byte a 3) (byte a 4) 4 [] 5 (omega arith) ∙ λ j. readProcesses (f .second j) (f .third j) (f .fourth j) 4 [] b 5
 
+pub read-prefix : (b : List ℕ) → readSheet (take 418 b) ≡ readSheet b
+read-prefix b = sheet-same (take 418 b) b (taken-same b)
+
 pub prefix : (b : List ℕ) → checkOf (take 418 b) ≡ checkOf b
 unfolding checkOf
-prefix b = ap reply (sheet-same (take 418 b) b (taken-same b))
+prefix b = ap reply (read-prefix b)
+
+pub find-prefix : (b book ann : List ℕ) → findOf (take 418 b) book ann ≡ findOf b book ann
+unfolding findOf findSheet
+find-prefix b book ann = rw (read-prefix b)

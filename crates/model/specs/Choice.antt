@@ -1,7 +1,7 @@
 -- 01, "The order of choices": a choice is one row of entries, and the first entry that differs decides.
 use mathlib.Core.Path.{_≡_}
 use mathlib.Core.Bool.{Bool, true, false, _&&_}
-use mathlib.Core.List.{List, [], _∷_, _++_, map}
+use mathlib.Core.List.{List, [], _∷_, _++_, map, List·Memᴰ}
 use Prim.Native.Nat.{ℕ, zero, suc, _-_, _*_, _^_, _<_, min}
 use lib.Dec.{ltb}
 use lib.ListN.{replicate, take, drop}
@@ -88,6 +88,19 @@ padded s bs c = padRows (s .processes) bs c
 pub data Before : List ℕ → List ℕ → Type 0 where
   lower : {v w : ℕ} {c d : List ℕ} → v < w → Before (v ∷ c) (w ∷ d)
   later : {v : ℕ} {c d : List ℕ} → Before c d → Before (v ∷ c) (v ∷ d)
+
+-- R holds between each choice and all that follow it
+pub data Pairwise (R : List ℕ → List ℕ → Type 0) : List (List ℕ) → Type 0 where
+  empty : Pairwise R []
+  then : {c : List ℕ} {cs : List (List ℕ)} → ((d : List ℕ) → List·Memᴰ d cs → R c d) → Pairwise R cs → Pairwise R (c ∷ cs)
+
+-- in the order of choices
+abbrev pub Ordered : List (List ℕ) → Type 0
+Ordered cs = Pairwise Before cs
+
+-- each once
+abbrev pub Once : List (List ℕ) → Type 0
+Once cs = Pairwise (λ c d. ¬ (c ≡ d)) cs
 
 -- each of the values in front of each of the rest
 unfoldable pub each : List ℕ → List (List ℕ) → List (List ℕ)

@@ -84,6 +84,16 @@ unfolding keep below count
 keep-count p zero = refl
 keep-count p (suc n) = put-length (p n) n (keep p (below n)) ∙ ap (λ (k : ℕ). one (p n) + k) (keep-count p n)
 
+pub one-le : (b : Bool) → one b ≤ 1
+unfolding one
+one-le true = omega arith
+one-le false = omega arith
+
+pub count-le : (p : ℕ → Bool) (n : ℕ) → count p n ≤ n
+unfolding count
+count-le p zero = omega arith
+count-le p (suc n) = omega (arith, one-le (p n), count-le p n)
+
 pub keep-sound : (p : ℕ → Bool) (x : ℕ) (xs : List ℕ) → List·Memᴰ x (keep p xs) → List·Memᴰ x xs × (p x ≡ true)
 unfolding keep
 keep-sound p x [] m = absurd (List·Memᴰ·not-nil m)

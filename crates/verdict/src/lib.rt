@@ -65,7 +65,7 @@ fn copy(annotation: &mut [u16], numbers: &[u16], n: usize)
 }
 
 // Of the tables of a choice: their annotation, or `loop`.
-fn annotate_tables(sheet: Sheet, tables: &[u8], annotation: &mut [u16]) -> Verdict
+pub fn annotate_tables(sheet: Sheet, tables: &[u8], annotation: &mut [u16]) -> Verdict
     requires { ⌜ Good (sheetOf sheet) ⌝ }
     requires { ⌜ Sized sheet ⌝ }
     requires { ⌜ IsChoice (sheetOf sheet) (chosen (sheetOf sheet) (now tables)) ⌝ }

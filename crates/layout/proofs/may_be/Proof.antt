@@ -1,10 +1,10 @@
--- `book::walk::may_be` meets its contract. Assumes nothing.
+-- `layout::may_be` meets its contract. Assumes nothing.
 use borrow.Author.Tests.{eq-eqb, ne-eqb}
 use Rattle.model.specs.Mask.{if, within}
 use Rattle.model.specs.Choice.{may}
 use Rattle.layout.specs.Codes.{kindOf}
-use Rattle.book.proofs.walk.may_be.Statement.{statement}
-use Rattle.book.proofs.walk.may_be.Tie as tie
+use Rattle.layout.proofs.may_be.Statement.{statement}
+use Rattle.layout.proofs.may_be.Tie as tie
 
 returns : tie.Need-returns
 unfolding kindOf if may within
