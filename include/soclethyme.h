@@ -1,9 +1,9 @@
 /* The library's C interface. Link libexport.a (rt staticlib export).
  *
  * Every call takes bytes and buffers of any length. A result is 0 for proper,
- * written, read, yes and annotated, and 256 for no and loop; otherwise it is
- * the number of the refusal (README.md lists them), and every lent buffer then
- * holds what it held before. */
+ * tables, written, read, yes and annotated, and 256 for none, no and loop;
+ * otherwise it is the number of the refusal (README.md lists them), and every
+ * lent buffer then holds what it held before. */
 #ifndef SOCLETHYME_H
 #define SOCLETHYME_H
 
@@ -16,6 +16,14 @@ extern "C" {
 
 /* 0 for a proper sheet, otherwise the refusal of its first fault, 1 to 7. */
 uint32_t soclethyme_check(const uint8_t *sheet, size_t sheet_len);
+
+/* Finds the first tables that keep the sheet: writes their book at the front of
+ * `book` and its exact annotation at the front of `annotation`, and leaves the
+ * rests; or 256, where no tables keep the sheet, and writes nothing. A buffer
+ * that is too short is refused, even if the result would be none. */
+uint32_t soclethyme_find(const uint8_t *sheet, size_t sheet_len,
+                         uint8_t *book, size_t book_len,
+                         uint16_t *annotation, size_t annotation_len);
 
 /* Writes the book of the tables at the front of `book` and leaves the rest.
  * `tables` are exactly 272 bytes, a choice's entries in order at the front. */

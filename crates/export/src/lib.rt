@@ -1,9 +1,10 @@
 // The public calls for C and Rust (include/soclethyme.h): an answer is 0 for the good one, 256 for the other finding, otherwise the refusal's number.
 ghost use mathlib.Core.Path.{_≡_};
-ghost use Rattle.model.specs.Numbers.{replyCode, findingCode, verdictCode};
-ghost use Rattle.model.specs.Calls.{checkOf, writeOf, readOf, partOf, judgeOf, annotateOf};
+ghost use Rattle.model.specs.Numbers.{replyCode, findingCode, verdictCode, outcomeCode};
+ghost use Rattle.model.specs.Calls.{checkOf, findOf, writeOf, readOf, partOf, judgeOf, annotateOf};
 ghost use Rattle.export.specs.After.{tablesAfter, partCode};
 use model::Finding;
+use model::Outcome;
 use model::Reply;
 use model::Verdict;
 
@@ -34,11 +35,30 @@ fn verdict_code(verdict: Verdict) -> u32
     }
 }
 
+fn outcome_code(outcome: Outcome) -> u32
+    ensures { λ r. ⌜ r ≡ outcomeCode outcome ⌝ }
+{
+    match outcome {
+        Outcome::Refused(refusal) => refusal.number(),
+        Outcome::Tables => 0,
+        Outcome::Nothing => 256,
+    }
+}
+
 #[no_mangle]
 pub extern "C" fn soclethyme_check(sheet: &[u8]) -> u32
     ensures { λ r. ⌜ r ≡ replyCode (checkOf (now (sheet .entry))) ⌝ }
 {
     reply_code(planner::check(sheet))
+}
+
+#[no_mangle]
+pub extern "C" fn soclethyme_find(sheet: &[u8], book: &mut [u8], annotation: &mut [u16]) -> u32
+    ensures { λ r. ⌜ r ≡ outcomeCode (findOf (now (sheet .entry)) (now (book .entry)) (now (annotation .entry)) .answer) ⌝ }
+    ensures { λ _. ⌜ now (book .exit) ≡ findOf (now (sheet .entry)) (now (book .entry)) (now (annotation .entry)) .book ⌝ }
+    ensures { λ _. ⌜ now (annotation .exit) ≡ findOf (now (sheet .entry)) (now (book .entry)) (now (annotation .entry)) .annotation ⌝ }
+{
+    outcome_code(planner::find(sheet, book, annotation))
 }
 
 #[no_mangle]

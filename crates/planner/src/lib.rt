@@ -1,11 +1,12 @@
 // The public calls. Each takes whatever comes, and its contract says what it answers and what each lent buffer then holds.
 ghost use mathlib.Core.Path.{_≡_};
-ghost use Rattle.model.specs.Calls.{checkOf, writeOf, readOf, partOf, judgeOf, annotateOf};
+ghost use Rattle.model.specs.Calls.{checkOf, findOf, writeOf, readOf, partOf, judgeOf, annotateOf};
 ghost use Rattle.model.specs.Calls.{part as partIn};
 ghost use Rattle.book.specs.Answers.{afterRead, afterPart};
 use book::Part;
 use book::TablesRead;
 use machine::Architecture;
+use model::Outcome;
 use model::Reply;
 use model::Verdict;
 
@@ -15,6 +16,23 @@ pub fn check(sheet: &[u8]) -> Reply
 {
     let reading = sheet::read(sheet);
     reading.answer
+}
+
+// Finds the first tables that keep the sheet: their book and annotation go to the fronts of the buffers. `none` writes nothing.
+pub fn find(sheet: &[u8], book: &mut [u8], annotation: &mut [u16]) -> Outcome
+    ensures { λ r. ⌜ r ≡ findOf (now (sheet .entry)) (now (book .entry)) (now (annotation .entry)) .answer ⌝ }
+    ensures { λ _. ⌜ now (book .exit) ≡ findOf (now (sheet .entry)) (now (book .entry)) (now (annotation .entry)) .book ⌝ }
+    ensures { λ _. ⌜ now (annotation .exit) ≡ findOf (now (sheet .entry)) (now (book .entry)) (now (annotation .entry)) .annotation ⌝ }
+{
+    let reading = sheet::read(sheet);
+    let answer = reading.answer;
+    match answer {
+        Reply::Refused(refusal) => Outcome::Refused(refusal),
+        Reply::Done => {
+            let read = reading.sheet;
+            finding::find_for(read, book, annotation)
+        }
+    }
 }
 
 // Writes the book of these tables at the front of the buffer, or refuses and leaves it.

@@ -1,12 +1,10 @@
 -- `planner::annotate` meets its contract: the sheet is read, and then the book annotated. Assumes nothing.
-use mathlib.Core.Path.{_≡_, refl}
+use mathlib.Core.Path.{refl}
 use borrow.Author.Needs.{needs}
-use Rattle.model.specs.Sheet.{proper, _then_, readSheet}
+use Rattle.model.specs.Sheet.{_then_}
 use Rattle.model.specs.Calls.{bookAndRoom, annotated, annotateOf}
-use Rattle.model.proofs.Sheet.{sheet-good}
-use Rattle.sheet.specs.Struct.{sheetOf}
-use Rattle.sheet.proofs.Sheets.{read-refused, read-proper}
 use Rattle.verdict.proofs.Read.{book-by}
+use Rattle.planner.proofs.Sheets.{refusal-is, sheet-is, good-is}
 use Rattle.planner.proofs.annotate.Statement.{statement}
 use Rattle.planner.proofs.annotate.Tie as tie
 
@@ -19,18 +17,18 @@ enum-known-answer c = search needs
 enum-told : tie.Need-enum-told
 enum-told c = search needs
 
--- the sheet that was read
-sheet-is : (c : tie.After-enum-told) → readSheet (c .before .before .before .before .before .before .args .sheet .now) ≡ proper (sheetOf (c .before .before .read .result .sheet))
-sheet-is c = let r = c .before .before .read .result in read-proper _ (r .answer) (r .sheet) (c .before .before .read .ensures .0) (c .enum-told .given .1)
-
 annotate-for-requires : tie.Need-annotate-for-requires
-annotate-for-requires c κs = (sheet-good _ _ (sheet-is (c .before .before)), c .before .before .before .before .read .ensures .1)
+annotate-for-requires c κs =
+    let a = c .before .before .before .before .before .before .before .before .args in
+    let r = c .before .before .before .before .read in
+    (good-is (a .sheet .now) (r .result) (r .ensures .0) (c .before .before .enum-told .given .1), r .ensures .1)
 
 returns : tie.Need-returns
 unfolding annotateOf bookAndRoom _then_ annotated
 returns c =
-    let r = c .before .before .before .read .result in
-    let e = read-refused _ (r .answer) (r .sheet) (c .before .answer .given .0 .0) (c .before .before .before .read .ensures .0) (c .before .answer .given .1) in
+    let a = c .before .before .before .before .before .before .before .args in
+    let r = c .before .before .before .read in
+    let e = refusal-is (a .sheet .now) (r .result) (r .ensures .0) (c .before .answer .given .0 .0) (c .before .answer .given .1) in
     rw e (refl, refl)
 
 same-length : tie.Need-same-length
@@ -40,7 +38,8 @@ returns-2 : tie.Need-returns-2
 unfolding annotateOf
 returns-2 c =
     let a = c .before .before .before .before .before .before .before .before .before .before .before .args in
-    rw (book-by (a .sheet .now) (a .book .now) (a .annotation .now) _ (sheet-is (c .before .before .before .before .before))) (c .before .before .annotate-for .ensures .0, c .before .before .annotate-for .ensures .1)
+    let r = c .before .before .before .before .before .before .before .read in
+    rw (book-by (a .sheet .now) (a .book .now) (a .annotation .now) _ (sheet-is (a .sheet .now) (r .result) (r .ensures .0) (c .before .before .before .before .before .enum-told .given .1))) (c .before .before .annotate-for .ensures .0, c .before .before .annotate-for .ensures .1)
 
 pub annotate-spec : {M : Type 1} → statement M
 annotate-spec =

@@ -1,12 +1,9 @@
 -- `planner::judge` meets its contract: the sheet is read, and then the book judged. Assumes nothing.
-use mathlib.Core.Path.{_≡_}
 use borrow.Author.Needs.{needs}
-use Rattle.model.specs.Sheet.{proper, _then_, readSheet}
+use Rattle.model.specs.Sheet.{_then_}
 use Rattle.model.specs.Calls.{bookAndRoom, judged, judgeOf}
-use Rattle.model.proofs.Sheet.{sheet-good}
-use Rattle.sheet.specs.Struct.{sheetOf}
-use Rattle.sheet.proofs.Sheets.{read-refused, read-proper}
 use Rattle.verdict.proofs.Read.{book-by}
+use Rattle.planner.proofs.Sheets.{refusal-is, sheet-is, good-is}
 use Rattle.planner.proofs.judge.Statement.{statement}
 use Rattle.planner.proofs.judge.Tie as tie
 
@@ -19,25 +16,26 @@ enum-known-answer c = search needs
 enum-told : tie.Need-enum-told
 enum-told c = search needs
 
--- the sheet that was read
-sheet-is : (c : tie.After-enum-told) → readSheet (c .before .before .before .before .before .before .args .sheet .now) ≡ proper (sheetOf (c .before .before .read .result .sheet))
-sheet-is c = let r = c .before .before .read .result in read-proper _ (r .answer) (r .sheet) (c .before .before .read .ensures .0) (c .enum-told .given .1)
-
 judge-for-requires : tie.Need-judge-for-requires
-judge-for-requires c κs = (sheet-good _ _ (sheet-is (c .before)), c .before .before .before .read .ensures .1)
+judge-for-requires c κs =
+    let a = c .before .before .before .before .before .before .before .args in
+    let r = c .before .before .before .read in
+    (good-is (a .sheet .now) (r .result) (r .ensures .0) (c .before .enum-told .given .1), r .ensures .1)
 
 returns : tie.Need-returns
 unfolding judgeOf bookAndRoom _then_ judged
 returns c =
-    let r = c .before .before .before .read .result in
-    let e = read-refused _ (r .answer) (r .sheet) (c .before .answer .given .0 .0) (c .before .before .before .read .ensures .0) (c .before .answer .given .1) in
+    let a = c .before .before .before .before .before .before .before .args in
+    let r = c .before .before .before .read in
+    let e = refusal-is (a .sheet .now) (r .result) (r .ensures .0) (c .before .answer .given .0 .0) (c .before .answer .given .1) in
     rw e
 
 returns-2 : tie.Need-returns-2
 unfolding judgeOf
 returns-2 c =
     let a = c .before .before .before .before .before .before .before .before .args in
-    rw (book-by (a .sheet .now) (a .book .now) (a .annotation .now) _ (sheet-is (c .before .before))) (c .judge-for .ensures)
+    let r = c .before .before .before .before .read in
+    rw (book-by (a .sheet .now) (a .book .now) (a .annotation .now) _ (sheet-is (a .sheet .now) (r .result) (r .ensures .0) (c .before .before .enum-told .given .1))) (c .judge-for .ensures)
 
 pub judge-spec : {M : Type 1} → statement M
 judge-spec =

@@ -1,0 +1,59 @@
+-- `planner::find` meets its contract: the sheet is read, and then the first tables are found. Assumes nothing.
+use mathlib.Core.Path.{refl}
+use borrow.Author.Needs.{needs}
+use Rattle.model.specs.Sheet.{_then_}
+use Rattle.model.specs.Calls.{findSheet, findIn, findOf}
+use Rattle.finding.proofs.Room.{find-by}
+use Rattle.planner.proofs.Sheets.{refusal-is, sheet-is, good-is}
+use Rattle.planner.proofs.find.Statement.{statement}
+use Rattle.planner.proofs.find.Tie as tie
+
+read-requires : tie.Need-read-requires
+read-requires c κs = search needs
+
+enum-known-answer : tie.Need-enum-known-answer
+enum-known-answer c = search needs
+
+enum-told : tie.Need-enum-told
+enum-told c = search needs
+
+find-for-requires : tie.Need-find-for-requires
+find-for-requires c κs =
+    let a = c .before .before .before .before .before .before .before .before .before .args in
+    let r = c .before .before .before .before .before .read in
+    (good-is (a .sheet .now) (r .result) (r .ensures .0) (c .before .before .before .enum-told .given .1), r .ensures .1)
+
+returns : tie.Need-returns
+unfolding findOf findSheet _then_ findIn
+returns c =
+    let a = c .before .before .before .before .before .before .before .args in
+    let r = c .before .before .before .read in
+    let e = refusal-is (a .sheet .now) (r .result) (r .ensures .0) (c .before .answer .given .0 .0) (c .before .answer .given .1) in
+    rw e (refl, (refl, refl))
+
+same-length : tie.Need-same-length
+same-length c = search needs
+
+same-length-2 : tie.Need-same-length-2
+same-length-2 c = search needs
+
+returns-2 : tie.Need-returns-2
+unfolding findOf
+returns-2 c =
+    let a = c .before .before .before .before .before .before .before .before .before .before .before .before .before .before .args in
+    let r = c .before .before .before .before .before .before .before .before .before .before .read in
+    let f = c .before .before .before .before .find-for .ensures in
+    rw (find-by (a .sheet .now) (a .book .now) (a .annotation .now) _ (sheet-is (a .sheet .now) (r .result) (r .ensures .0) (c .before .before .before .before .before .before .before .before .enum-told .given .1))) f
+
+pub find-spec : {M : Type 1} → statement M
+find-spec =
+    tie.close
+    (tie.spec
+    read-requires
+    enum-known-answer
+    enum-told
+    find-for-requires
+    returns
+    same-length
+    same-length-2
+    returns-2)

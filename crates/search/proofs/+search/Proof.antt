@@ -1,0 +1,275 @@
+-- `search::search` meets its contract; its measure is the count of entries that are still open. Of the loop: P holds for each value tried, and the partial choice is that of the entry but for k, which is settled.
+use mathlib.Core.Path.{_≡_, refl, sym, ap, subst, subst₂, subst₃, _∙_}
+use mathlib.Core.Bool.{true}
+use mathlib.Core.List.{List}
+use Prim.Native.Nat.{ℕ, _+_, _-_, _<_, _≤_}
+use native.Mathlib.Omega.{arith}
+use lib.ListN.{length, getD, set, length-set}
+use lib.Seq.{set-set, set-getD}
+use borrow.Fn.Kinds.{In, Out}
+use borrow.Fn.PlainCycle.{Measures, is, falls, and}
+use borrow.Author.Needs.{needs}
+use Rattle.model.specs.Sheet.{Sheet}
+use Rattle.model.specs.Choice.{may, entries}
+use Rattle.sheet.specs.Struct.{sheetOf}
+use Rattle.layout.specs.Codes.{kindOf}
+use Rattle.partial.specs.Says.{Barren, ExploredSays, Work}
+use Rattle.search.specs.Search.{Kinds, Ready, opens}
+use Rattle.search.specs.Says.{Finds, Refuted, Found}
+use Rattle.partial.specs.declared.Explored.{Explored}
+use Rattle.search.specs.declared.Searched.{Searched}
+use Rattle.search.proofs.Laws.{Trying, trying-none, trying-more, completed, Opened, below, opens-fewer, values-back, unset-back, set-ready, found-wider, all-tried}
+use Rattle.search.proofs.search.Reads as search′
+use Rattle.search.proofs.search.Kinds as search-kinds
+use Rattle.search.proofs.+search.Lts-search as search-lts
+use Rattle.partial.proofs.explore.Reads as explore-reads
+use Rattle.search.proofs.next_value.Reads as next-value-reads
+use Rattle.search.proofs.+search.{statement}
+use Rattle.search.proofs.+search.Tie.{close}
+
+abbrev μ-search : Measures 8 search-kinds.ps ℕ
+μ-search κs a = a .1 .1 .0
+
+abbrev search-at : ℕ → In 8 search-kinds.ps
+search-at t = and 8 search-kinds.ps (is 8 search-kinds.ps μ-search t) search′.Pre
+
+abbrev search-below : ℕ → In 8 search-kinds.ps
+search-below t = and 8 search-kinds.ps (falls 8 search-kinds.ps _<_ μ-search t) search′.Pre
+
+abbrev search-Inv-loop : search-lts.InvT-loop
+search-Inv-loop values₀ unset₀ left sheet kinds numbers₀ stack₀ waiting₀ targets₀ steps₀ k kind v₀ values unset numbers stack waiting targets steps v =
+    Trying (kindOf kind) (λ u. Barren (sheetOf sheet) (set values₀ k u) unset₀) v × (set values k 0 ≡ values₀) × (unset ≡ unset₀) × Work numbers stack waiting targets steps
+
+abbrev search-μ-loop : search-lts.MeasureT-loop
+search-μ-loop values₀ unset₀ left sheet kinds numbers₀ stack₀ waiting₀ targets₀ steps₀ k kind v₀ values unset numbers stack waiting targets steps v =
+    256 - v
+
+abbrev claims : ℕ → search-lts.Claims
+claims t = (explore-reads.Asked, explore-reads.Learnt, next-value-reads.Asked, next-value-reads.Learnt, search-below t, search′.Post)
+
+module _ (t : ℕ) where
+  -- a need, or a place
+  abbrev Of : (search-lts.Claims → In 8 search-kinds.ps → Out 8 search-kinds.ps search-kinds.r → search-lts.InvT-loop → search-lts.MeasureT-loop → Type 0) → Type 0
+  Of N = N (claims t) (search-at t) search′.Post search-Inv-loop search-μ-loop
+
+  -- ---- places
+  abbrev Started : Type 0
+  Started = Of search-lts.Start
+
+  module _ (b : Started) where
+    abbrev s : Sheet
+    s = sheetOf (b .args .sheet)
+
+    abbrev kinds-are : Kinds s (b .args .kinds .now)
+    kinds-are = b .pre .1 .1 .1 .0
+
+    abbrev ready : Ready s (b .args .values .now) (b .args .unset .now)
+    ready = b .pre .1 .1 .1 .1 .0
+
+    abbrev few : opens (b .args .unset .now) (length (entries s)) ≤ b .args .left
+    few = b .pre .1 .1 .1 .1 .1 .0
+
+  -- explore asked for k
+  abbrev Asking : Type 0
+  Asking = Of search-lts.After-explored
+
+  abbrev started : Asking → Started
+  started a = a .before .before .before .before .before .before .before .before .before .before .before .before
+
+  abbrev k : Asking → ℕ
+  k a = a .explored .given .0 .0
+
+  opened : (a : Asking) → Opened (s (started a)) (started a .args .values .now) (started a .args .unset .now) (started a .args .kinds .now) (k a)
+  opened a =
+      let b = started a in
+      let says = subst (λ (r : Explored). ExploredSays (s b) (b .args .values .now) (b .args .unset .now) r) (a .explored .given .1) (a .before .before .explore .ensures .0) in
+      record { kinds-are = kinds-are b; ready = ready b; inside = says .0; unsettled = says .1 }
+
+  -- in the loop, with v at k, the partial choice is that of the entry with v at k
+  abbrev Looping : Type 0
+  Looping = Of search-lts.At-loop
+
+  abbrev asking : Looping → Asking
+  asking l = l .before .before .before .before .before
+
+  narrowed : (l : Looping) → set (l .loop .values) (k (asking l)) (l .loop .v) ≡ set (started (asking l) .args .values .now) (k (asking l)) (l .loop .v)
+  narrowed l = sym (set-set (l .loop .values) (k (asking l)) 0 (l .loop .v)) ∙ ap (λ (x : List ℕ). set x (k (asking l)) (l .loop .v)) (l .loop .inv .1)
+
+  -- the inner call is back
+  abbrev Back : Type 0
+  Back = Of search-lts.After-search
+
+  abbrev looping : Back → Looping
+  looping f = f .before .before .before .before .before .before .before .before .before
+
+  told : (f : Back) (r : Searched) → f .search .result ≡ r →
+      let l = looping f in
+      let a = asking l in
+      Finds (s (started a)) (set (started a .args .values .now) (k a) (l .loop .v)) (set (started a .args .unset .now) (k a) 0) (f .search .last .0) (f .search .last .1 .0) r
+  told f r e =
+      let l = looping f in
+      subst₃ (λ (x y : List ℕ) (r : Searched). Finds (s (started (asking l))) x y (f .search .last .0) (f .search .last .1 .0) r) (narrowed l) (l .loop .inv .2) e (f .search .ensures .0)
+
+  -- ---- needs
+  search-explore-requires : Of search-lts.Need-explore-requires
+  search-explore-requires c κs =
+      let b = c .before .before .before .before .before .before .before .before .before in
+      (b .pre .1 .0, (b .pre .1 .1 .0, (ready b .choice, (omega (arith, ready b .unset-long, kinds-are b .few), b .pre .1 .1 .1 .1 .1 .1))))
+
+  search-enum-told : Of search-lts.Need-enum-told
+  search-enum-told c = search needs
+
+  search-enum-told-2 : Of search-lts.Need-enum-told-2
+  search-enum-told-2 c = search needs
+
+  search-enum-known-explored : Of search-lts.Need-enum-known-explored
+  search-enum-known-explored c = search needs
+
+  search-returns : Of search-lts.Need-returns
+  search-returns c =
+      let a = c .before .before in
+      absurd (omega (arith, opens-fewer (opened a), c .if1 .taken, few (started a)))
+
+  search-mul-kind : Of search-lts.Need-mul-kind
+  search-mul-kind c = omega (arith, below (opened (c .before .before)))
+
+  search-element-copy-out-kind : Of search-lts.Need-element-copy-out-kind
+  search-element-copy-out-kind c = below (opened (c .before .before))
+
+  search-element-write-unset : Of search-lts.Need-element-write-unset
+  search-element-write-unset c = below (opened (c .before .before .before))
+
+  search-next-value-requires : Of search-lts.Need-next-value-requires
+  search-next-value-requires c κs = search needs
+
+  search-loop-holds : Of search-lts.Need-loop-holds
+  search-loop-holds c =
+      let a = c .before .before .before .before in
+      (trying-none _ _ _ (c .next-value .ensures), values-back (opened a), refl, a .before .before .explore .ensures .1)
+
+  search-cast-values : Of search-lts.Need-cast-values
+  search-cast-values c = omega arith
+
+  search-element-write-values : Of search-lts.Need-element-write-values
+  search-element-write-values c = below (opened (c .before .before .before .before .before .before))
+
+  search-sub-search : Of search-lts.Need-sub-search
+  search-sub-search c = omega arith
+
+  search-search-requires : Of search-lts.Need-search-requires
+  search-search-requires c κs =
+      let l = c .before .before .before .before .before .before .before .before in
+      let a = asking l in
+      let b = started a in
+      let o = opened a in
+      let m : may (kindOf (getD (b .args .kinds .now) (k a) 0)) (l .loop .v) ≡ true = l .loop .inv .0 .may-be (c .before .before .before .before .before .before .before .loop-test .taken) in
+      (omega arith, (b .pre .1 .0, (b .pre .1 .1 .0, (kinds-are b, (subst₂ (Ready (s b)) (sym (narrowed l)) (sym (l .loop .inv .2)) (set-ready o (l .loop .v) m), (omega (arith, ap (λ (x : List ℕ). opens x (length (entries (s b)))) (l .loop .inv .2), opens-fewer o, few b), l .loop .inv .3))))))
+
+  search-enum-told-3 : Of search-lts.Need-enum-told-3
+  search-enum-told-3 c = search needs
+
+  search-returns-2 : Of search-lts.Need-returns-2
+  search-returns-2 c =
+      let f = c .before .before in
+      let l = looping f in
+      (found-wider (opened (asking l)) (l .loop .v) _ (told f _ (c .enum-told3 .given .1)), f .search .ensures .1)
+
+  search-enum-told-4 : Of search-lts.Need-enum-told-4
+  search-enum-told-4 c = search needs
+
+  search-add-next-value : Of search-lts.Need-add-next-value
+  search-add-next-value c = omega arith
+
+  search-next-value-requires-2 : Of search-lts.Need-next-value-requires-2
+  search-next-value-requires-2 c κs = omega arith
+
+  search-loop-less : Of search-lts.Need-loop-less
+  search-loop-less c = omega arith
+
+  search-loop-again : Of search-lts.Need-loop-again
+  search-loop-again c =
+      let f = c .before .before .before in
+      let l = looping f in
+      let a = asking l in
+      let r = told f _ (c .before .enum-told4 .given .1) in (
+        trying-more _ _ _ _ (c .next-value2 .ensures) (l .loop .inv .0) (r .barren),
+        ap (λ (x : List ℕ). set x (k a) 0) (r .same-values) ∙ set-set (started a .args .values .now) (k a) (l .loop .v) 0 ∙ values-back (opened a),
+        r .same-unset,
+        f .search .ensures .1,
+      )
+
+  search-element-write-values-2 : Of search-lts.Need-element-write-values-2
+  search-element-write-values-2 c = below (opened (c .before .before .before .before .before .before))
+
+  search-element-write-unset-2 : Of search-lts.Need-element-write-unset-2
+  search-element-write-unset-2 c = below (opened (c .before .before .before .before .before .before))
+
+  search-returns-3 : Of search-lts.Need-returns-3
+  search-returns-3 c =
+      let e = c .before .before .explore in
+      let b = c .before .before .before .before .before .before .before .before .before .before .before .before in (
+        record {
+          barren = subst (λ (r : Explored). ExploredSays (s b) (b .args .values .now) (b .args .unset .now) r) (c .enum-told .given .1) (e .ensures .0);
+          same-values = refl;
+          same-unset = refl;
+        },
+        e .ensures .1,
+      )
+
+  search-returns-4 : Of search-lts.Need-returns-4
+  search-returns-4 c =
+      let e = c .before .before .explore in
+      let b = c .before .before .before .before .before .before .before .before .before .before .before .before in
+      let all = subst (λ (r : Explored). ExploredSays (s b) (b .args .values .now) (b .args .unset .now) r) (c .enum-told2 .given .1) (e .ensures .0) in
+      let done = completed (s b) (b .args .values .now) (b .args .unset .now) (ready b .choice) in (
+        record {
+          witness = record { long = ready b .values-long; choice = ready b .choice; keeps = all _ done };
+          agrees = done .agrees;
+        },
+        e .ensures .1,
+      )
+
+  search-returns-5 : Of search-lts.Need-returns-5
+  search-returns-5 c =
+      let l = c .before in
+      let a = asking l in (
+        record {
+          barren = all-tried (opened a) (started a .pre .1 .0) (l .loop .v) (c .loop-test .left) (l .loop .inv .0);
+          same-values = l .loop .inv .1;
+          same-unset = rw (l .loop .inv .2) (unset-back (opened a));
+        },
+        l .loop .inv .3,
+      )
+
+pub +search-spec : {M : Type 1} → statement M
++search-spec = close μ-search λ t. search-lts.spec (claims t)
+    (search-at t)
+    search′.Post
+    search-Inv-loop
+    search-μ-loop
+    (search-explore-requires t)
+    (search-enum-told t)
+    (search-enum-told-2 t)
+    (search-enum-known-explored t)
+    (search-returns t)
+    (search-mul-kind t)
+    (search-element-copy-out-kind t)
+    (search-element-write-unset t)
+    (search-next-value-requires t)
+    (search-loop-holds t)
+    (search-cast-values t)
+    (search-element-write-values t)
+    (search-sub-search t)
+    (search-search-requires t)
+    (search-enum-told-3 t)
+    (search-returns-2 t)
+    (search-enum-told-4 t)
+    (search-add-next-value t)
+    (search-next-value-requires-2 t)
+    (search-loop-less t)
+    (search-loop-again t)
+    (search-element-write-values-2 t)
+    (search-element-write-unset-2 t)
+    (search-returns-3 t)
+    (search-returns-4 t)
+    (search-returns-5 t)
