@@ -1,0 +1,198 @@
+-- What find left in the buffers of the program, and what it answered. Assumes nothing.
+use mathlib.Core.Path.{_≡_, refl, sym, ap, _∙_, subst}
+use mathlib.Core.List.{List}
+use mathlib.Core.Option.{Option, none, some}
+use Prim.Native.Nat.{ℕ, _*_, _≤_}
+use native.Mathlib.Omega.{arith}
+use lib.ListN.{length, take, drop, replicate}
+use lib.Seq.{take-at}
+use borrow.Author.Tests.{le-ltb}
+use Rattle.theory.proofs.AnnotationLaws.{annotation-length}
+use Rattle.model.specs.declared.Refusal.{Refusal}
+use Rattle.model.specs.declared.Refusal.the-variants.{BookBufferTooShort, AnnotationBufferTooShort}
+use Rattle.model.specs.declared.Outcome.{Outcome}
+use Rattle.model.specs.declared.Reply.{Reply}
+use Rattle.model.specs.Sheet as model
+use Rattle.model.specs.Sheet.{Sheet, refused, proper, refuse_when_else_, _then_, readSheet}
+use Rattle.model.specs.Compose.{T}
+use Rattle.model.specs.Choice.{entries, IsChoice}
+use Rattle.model.specs.RunGraph.{vertices, blank}
+use Rattle.model.specs.Computed.{runGraph, annotation, keeps, firstChoice}
+use Rattle.model.specs.Book.{form, bookLength, bookOf, readBook}
+use Rattle.model.specs.Calls.{AfterFind, AfterRead, front, bookShort, annotationShort, findSheet, findChoice, findIn, findOf, tablesOf, gave}
+use Rattle.model.specs.Numbers.{number}
+use Rattle.model.proofs.Sheet.{passes, goes-on, Good, sheet-good}
+use Rattle.model.proofs.Lengths.{book-short}
+use Rattle.model.proofs.Book.{filled-length}
+use Rattle.model.proofs.Books.{written-is-read}
+use Rattle.model.proofs.First.{first-some, entries-small}
+use Rattle.sheet.specs.declared.Sheet as sheets
+use Rattle.sheet.specs.declared.Reading.{Reading}
+use Rattle.sheet.specs.Struct.{sheetOf, readingAs, readingOf}
+use Rattle.machine.specs.declared.Architecture.{Architecture}
+use Rattle.machine.specs.Struct.{ArchitectureOf, sheetWith}
+use Rattle.machine.proofs.Sheets.{same-entries, same-T}
+use Rattle.book.specs.declared.TablesRead.{TablesRead}
+use Rattle.book.specs.Answers.{afterRead}
+use Rattle.book.proofs.Same.{same-book}
+use Rattle.graph.proofs.Chosen.{chosen-tables}
+use Rattle.graph.proofs.Whole.{vertices-few}
+use Rattle.report.specs.Text.{textOf, noneText, refusedText}
+use Rattle.report.proofs.Same.{same-text, text-front}
+use Rattle.find.specs.Printed.{choiceText, sheetText, printed, found}
+
+-- the choice whose book and annotation the buffers have at the front
+pub record Chose (s : Sheet) (book ann : List ℕ) : Type 0 where
+  pub choice : List ℕ
+  pub first : firstChoice s ≡ some choice
+  pub is-choice : IsChoice s choice
+  pub book-is : take (bookLength s) book ≡ bookOf s choice
+  pub annotation-is : take (vertices s) ann ≡ annotation s choice
+
+book-length : (s : Sheet) (c : List ℕ) → length (bookOf s c) ≡ bookLength s
+unfolding bookOf bookLength
+book-length s c = filled-length (form s) c
+
+annotation-whole : (s : Sheet) (c : List ℕ) → length (annotation s c) ≡ vertices s
+unfolding annotation runGraph
+annotation-whole s c = annotation-length (runGraph s c) 0 blank
+
+front-is : (new old : List ℕ) (n : ℕ) → length new ≡ n → take n (front new old) ≡ new
+unfolding front
+front-is new old n e = take-at new (drop (length new) old) n e
+
+first-fits : (s : Sheet) (c : List ℕ) → Good s → firstChoice s ≡ some c → IsChoice s c
+unfolding firstChoice
+first-fits s c g e = first-some (entries s) (keeps s) c (entries-small s g) e .fitting
+
+nothing≢tables : ¬ (Outcome.Nothing ≡ Outcome.Tables)
+nothing≢tables e = let z : _≡_ {A = ℕ} 0 1 = cc in omega arith
+
+pub chose : (s : Sheet) (old-book old-ann book ann : List ℕ) → Good s → findChoice s (firstChoice s) old-book old-ann ≡ found book ann → Chose s book ann
+unfolding findChoice
+chose s old-book old-ann book ann g f = by (firstChoice s) refl f
+  where
+    by : (o : Option (List ℕ)) → firstChoice s ≡ o → findChoice s o old-book old-ann ≡ found book ann → Chose s book ann
+    by none e f = absurd (nothing≢tables (ap (λ (a : AfterFind). a .answer) f))
+    by (some c) e f = record {
+      choice = c;
+      first = e;
+      is-choice = first-fits s c g e;
+      book-is = ap (λ (a : AfterFind). take (bookLength s) (a .book)) (sym f) ∙ front-is (bookOf s c) old-book (bookLength s) (book-length s c);
+      annotation-is = ap (λ (a : AfterFind). take (vertices s) (a .annotation)) (sym f) ∙ front-is (annotation s c) old-ann (vertices s) (annotation-whole s c);
+    }
+
+-- ---- what find answers with buffers that are long enough
+module _ (b old-book old-ann : List ℕ) (book-room : 338 ≤ length old-book) (ann-room : 4096 ≤ length old-ann) where
+  find-proper : (s : Sheet) → readSheet b ≡ proper s → findOf b old-book old-ann ≡ findChoice s (firstChoice s) old-book old-ann
+  unfolding findOf findIn findSheet bookShort annotationShort _then_ refuse_when_else_
+  find-proper s e =
+      let g : Good s = sheet-good b s e in
+      rw (e, le-ltb (length old-book) (bookLength s) (omega (arith, book-short s g)), le-ltb (length old-ann) (vertices s) (omega (arith, vertices-few s g)))
+
+  find-refused : (q : Refusal) → readSheet b ≡ refused q → findOf b old-book old-ann .answer ≡ Outcome.Refused q
+  unfolding findOf findIn findSheet _then_
+  find-refused q e = rw e
+
+  pub says-refused : (r : Refusal) → findOf b old-book old-ann .answer ≡ Outcome.Refused r → printed b ≡ refusedText (number r)
+  unfolding printed sheetText findChoice
+  says-refused r f = by (readSheet b) refl
+    where
+      never : (s : Sheet) (o : Option (List ℕ)) → ¬ (findChoice s o old-book old-ann .answer ≡ Outcome.Refused r)
+      never s none e = let z : _≡_ {A = ℕ} 0 1 = cc in omega arith
+      never s (some c) e = let z : _≡_ {A = ℕ} 0 1 = cc in omega arith
+
+      by : (k : model.Reading Sheet) → readSheet b ≡ k → sheetText k ≡ refusedText (number r)
+      by (refused q) e =
+          let same : Outcome.Refused q ≡ Outcome.Refused r = sym (find-refused q e) ∙ f in
+          let reason : q ≡ r = cc in
+          ap (λ (x : Refusal). refusedText (number x)) reason
+      by (proper s) e = absurd (never s (firstChoice s) (sym (ap (λ (a : AfterFind). a .answer) (find-proper s e)) ∙ f))
+
+  pub says-nothing : findOf b old-book old-ann .answer ≡ Outcome.Nothing → printed b ≡ noneText
+  unfolding printed sheetText choiceText findChoice
+  says-nothing f = by (readSheet b) refl
+    where
+      chosen : (s : Sheet) (o : Option (List ℕ)) → findChoice s o old-book old-ann .answer ≡ Outcome.Nothing → choiceText s o ≡ noneText
+      chosen s none e = refl
+      chosen s (some c) e = let z : _≡_ {A = ℕ} 0 1 = cc in absurd (omega arith)
+
+      by : (k : model.Reading Sheet) → readSheet b ≡ k → sheetText k ≡ noneText
+      by (refused q) e = let z : Outcome.Refused q ≡ Outcome.Nothing = sym (find-refused q e) ∙ f in let y : _≡_ {A = ℕ} 0 1 = cc in absurd (omega arith)
+      by (proper s) e = chosen s (firstChoice s) (sym (ap (λ (a : AfterFind). a .answer) (find-proper s e)) ∙ f)
+
+-- find left tables, as its three promises say
+pub left-tables : (x : AfterFind) (o : Outcome) (book ann : List ℕ) → o ≡ x .answer → book ≡ x .book → ann ≡ x .annotation → o ≡ Outcome.Tables → x ≡ found book ann
+left-tables x o book ann e eb ea t =
+    let answer : x .answer ≡ Outcome.Tables = sym e ∙ t in
+    rw (eb, ea, ← answer)
+
+-- ---- the sheet that was read
+refused≢tables : (r : Refusal) → ¬ (Outcome.Refused r ≡ Outcome.Tables)
+refused≢tables r e = let z : _≡_ {A = ℕ} 0 1 = cc in omega arith
+
+-- the sheet, and what find made of it
+pub record Proper (b : List ℕ) (s : Sheet) (old-book old-ann book ann : List ℕ) : Type 0 where
+  pub is : readSheet b ≡ proper s
+  pub finds : findChoice s (firstChoice s) old-book old-ann ≡ found book ann
+
+same-sheet : (s s′ : Sheet) → proper s ≡ proper s′ → s ≡ s′
+same-sheet s s′ e = cc
+
+not-refused : (b old-book old-ann : List ℕ) (s : Sheet) → findSheet b old-book old-ann ≡ proper s → readSheet b ≡ proper s
+unfolding findSheet
+not-refused b old-book old-ann s e =
+    let h₁ = goes-on (readSheet b) _ e in
+    let h₂ = passes BookBufferTooShort (bookShort (h₁ .0) old-book) _ (h₁ .2) in
+    let h₃ = passes AnnotationBufferTooShort (annotationShort (h₁ .0) old-ann) _ (h₂ .1) in
+    h₁ .1 ∙ h₃ .1
+
+reading-is : (a : Reply) (x : sheets.Sheet) (s : Sheet) → readingAs a x ≡ proper s → sheetOf x ≡ s
+unfolding readingAs
+reading-is Reply.Done x s e = same-sheet (sheetOf x) s e
+reading-is (Reply.Refused r) x s e = let z : _≡_ {A = ℕ} 0 1 = cc in absurd (omega arith)
+
+pub found-proper : (b old-book old-ann book ann : List ℕ) (r : Reading) → readingOf r ≡ readSheet b → findOf b old-book old-ann ≡ found book ann → Proper b (sheetOf (r .sheet)) old-book old-ann book ann
+unfolding findOf findIn
+found-proper b old-book old-ann book ann r e f = by (findSheet b old-book old-ann) refl f
+  where
+    by : (k : model.Reading Sheet) → findSheet b old-book old-ann ≡ k → findIn k old-book old-ann ≡ found book ann → Proper b (sheetOf (r .sheet)) old-book old-ann book ann
+    by (refused q) h f = absurd (refused≢tables q (ap (λ (a : AfterFind). a .answer) f))
+    by (proper s) h f =
+        let read = not-refused b old-book old-ann s h in
+        rw (reading-is (r .answer) (r .sheet) s (e ∙ read)) record { is = read; finds = f }
+
+module _ (s : Sheet) (a : Architecture) (is : ArchitectureOf s a) (book ann : List ℕ) (h : Chose s book ann) where
+  -- where the book ends
+  pub same-length : bookLength (sheetWith a) ≡ bookLength s
+  unfolding bookLength form sheetWith
+  same-length = rw (is .processes)
+
+  pub book-whole : (n : ℕ) → n ≡ bookLength (sheetWith a) → n ≡ length (take n book)
+  book-whole n e = let l : length (take (bookLength s) book) ≡ bookLength s = ap length (h .book-is) ∙ book-length s (h .choice) in rw (e ∙ same-length) (sym l)
+
+  -- where the annotation ends
+  pub annotation-ends : (n : ℕ) → n ≡ T (sheetWith a) → s .states * n ≡ vertices s
+  unfolding vertices
+  annotation-ends n e = rw (e ∙ same-T s a is)
+
+  pub annotation-counted : (n : ℕ) → n ≡ vertices s → n ≡ length (take n ann)
+  annotation-counted n e = let l : length (take (vertices s) ann) ≡ vertices s = ap length (h .annotation-is) ∙ annotation-whole s (h .choice) in rw e (sym l)
+
+  -- the tables that are read back
+  module _ (n : ℕ) (e : n ≡ bookLength (sheetWith a)) (r : TablesRead) (q : afterRead r ≡ gave (readBook (sheetWith a) (take n book))) where
+    pub tables-are : r .tables ≡ tablesOf (h .choice)
+    unfolding gave
+    tables-are =
+        let same : take n book ≡ bookOf s (h .choice) = ap (λ (k : ℕ). take k book) (e ∙ same-length) ∙ h .book-is in
+        let read : readBook (sheetWith a) (take n book) ≡ proper (h .choice) = same-book s a is (take n book) ∙ ap (readBook s) same ∙ written-is-read s (h .choice) (h .is-choice) in
+        ap (λ (x : AfterRead). x .tables) (q ∙ ap gave read)
+
+    pub are-choice : IsChoice (sheetWith a) (take (length (entries (sheetWith a))) (r .tables))
+    are-choice = rw (same-entries s a is, tables-are) (subst (IsChoice s) (sym (chosen-tables s (h .choice) (h .is-choice))) (h .is-choice))
+
+    pub text-is : (v : ℕ) → v ≡ vertices s → textOf (sheetWith a) (r .tables) (take v ann) ≡ choiceText s (firstChoice s)
+    unfolding choiceText tablesOf front
+    text-is v ev =
+        same-text s a is (r .tables) (take v ann)
+        ∙ rw (tables-are, ev, h .annotation-is, h .first) (text-front (h .choice) (drop (length (h .choice)) (replicate 272 0)) s (annotation s (h .choice)) (h .is-choice))

@@ -1,0 +1,27 @@
+-- `find::found_text` meets its contract: find read a proper sheet. Assumes nothing.
+use borrow.Author.Needs.{needs}
+use Rattle.model.proofs.Sheet.{sheet-good}
+use Rattle.sheet.specs.Struct.{sheetOf}
+use Rattle.find.specs.Printed.{sheetText, printed, book₀, annotation₀}
+use Rattle.find.proofs.Found.{Proper, found-proper}
+use Rattle.find.proofs.found_text.Statement.{statement}
+use Rattle.find.proofs.found_text.Tie as tie
+
+read-requires : tie.Need-read-requires
+read-requires c κs = search needs
+
+-- the sheet that was read
+sheet : (c : tie.After-read) → let a = c .before .before .before .before .args in Proper (a .sheet .now) (sheetOf (c .read .result .sheet)) book₀ annotation₀ (a .book .now) (a .annotation .now)
+sheet c = let a = c .before .before .before .before .args in found-proper (a .sheet .now) _ _ _ _ (c .read .result) (c .read .ensures .0) (c .before .before .before .before .pre)
+
+choice-text-requires : tie.Need-choice-text-requires
+choice-text-requires c κs =
+    let s = sheet (c .before .before) in
+    (sheet-good _ _ (s .is), (c .before .before .read .ensures .1, s .finds))
+
+returns : tie.Need-returns
+unfolding printed sheetText
+returns c = rw (sheet (c .before .before .before) .is) (c .choice-text .ensures)
+
+pub found-text-spec : {M : Type 1} → statement M
+found-text-spec = tie.close (tie.spec read-requires choice-text-requires returns)
