@@ -1,29 +1,26 @@
 -- Laws of partial choices, of the values that an entry may have, and of witnesses.
-use mathlib.Core.Path.{_≡_, refl, sym, ap, subst, _∙_}
-use mathlib.Core.Logic.{_⊎_, inl, inr, ⊎-elim}
-use mathlib.Core.Bool.{true, false, true≢false}
-use mathlib.Core.List.{List, [], _∷_}
-use mathlib.Core.List.{List·Memᴰ, List·Memᴰ·head, List·Memᴰ·tail}
+use mathlib.Core.Path.{_≡_, refl, sym, ap, _∙_}
+use mathlib.Core.Bool.{true}
+use mathlib.Core.List.{List, [], _∷_, List·Memᴰ·head, List·Memᴰ·tail}
 use mathlib.Core.Option.{none, some}
 use Prim.Native.Nat.{ℕ, zero, suc, _+_, _<_, _≤_}
 use native.Mathlib.Nat.{le-refl}
-use native.Mathlib.Numerals.{add-one}
 use native.Mathlib.Decide.{ℕ-discrete, decLt}
 use native.Mathlib.Omega.{arith}
 use lib.ListN.{length, getD, set, take, replicate, length-set, length-replicate, getD-replicate, List·getD-map}
-use lib.Seq.{length-take-le, getD-take, getD-set-same, getD-set-other, take-set-lt, set-set, set-getD, ext-getD}
+use lib.Seq.{length-take-le, getD-take, getD-set-same, getD-set-other, take-set-lt, set-set, set-getD}
 use borrow.Author.Count.{below-more}
 use Rattle.model.specs.Sheet.{Sheet}
-use Rattle.model.specs.Choice.{Entry, entries, may, Fits, done, also, IsChoice, Before}
+use Rattle.model.specs.Choice.{Entry, entries, may, Fits, done, also, IsChoice}
 use Rattle.model.specs.Computed.{loops, keeps, firstChoice}
 use Rattle.model.proofs.Sheet.{Good}
 use Rattle.model.proofs.Choice.{fits-length}
 use Rattle.model.proofs.Entries.{fits-at, fits-set, before-at, zeros-fit}
-use Rattle.model.proofs.First.{FirstOf, AllSmall, entries-small}
+use Rattle.model.proofs.First.{AllSmall, entries-small}
 use Rattle.model.proofs.FirstIs.{none-is, first-is}
-use Rattle.layout.specs.Codes.{kindOf, kindsOf}
+use Rattle.layout.specs.Codes.{kindOf}
 use Rattle.graph.specs.Filled.{chosen}
-use Rattle.partial.specs.Partial.{Agrees, Completes}
+use Rattle.partial.specs.Partial.{Completes}
 use Rattle.partial.specs.Says.{Barren}
 use Rattle.search.specs.Search.{Ready, opens, NextValue, Kinds, Witness, Begun, Alike, Lowest, Least}
 use Rattle.search.specs.Says.{Found}
@@ -54,14 +51,15 @@ module _ (s : Sheet) (kinds : List ℕ) (K : Kinds s kinds) (k : ℕ) (hk : k < 
       ∙ sym (List·getD-map kindOf (take (length (entries s)) kinds) k 0)
       ∙ ap (λ (es : List Entry). getD es k (kindOf 0)) (K .are)
 
-  -- the value that a choice has
-  pub may-at : (c : List ℕ) → IsChoice s c → may (kindOf (getD kinds k 0)) (getD c k 0) ≡ true
+  -- a choice has a value that the entry may have
+  may-at : (c : List ℕ) → IsChoice s c → may (kindOf (getD kinds k 0)) (getD c k 0) ≡ true
   may-at c f = rw kind-at (fits-at f (kindOf 0) k hk)
 
-  -- and any other that the entry may have
-  pub may-set : (tables : List ℕ) (v : ℕ) → IsChoice s (chosen s tables) → may (kindOf (getD kinds k 0)) v ≡ true → IsChoice s (chosen s (set tables k v))
+  -- and is one still with another such value
+  may-set : (tables : List ℕ) (v : ℕ) → IsChoice s (chosen s tables) → may (kindOf (getD kinds k 0)) v ≡ true → IsChoice s (chosen s (set tables k v))
   may-set tables v f m = rw (take-set-lt (length (entries s)) tables k v hk) (fits-set f (kindOf 0) k v hk (rw kind-at at m))
 
+-- a choice has bytes
 small-at : {es : List Entry} {c : List ℕ} → Fits es c → AllSmall es → (i : ℕ) → i < length es → getD c i 0 < 256
 small-at done small i h = absurd (omega arith)
 small-at (also {e = e} {v = v} m f) small zero h = small e (List·Memᴰ·head refl) v m
@@ -101,7 +99,7 @@ pub record Opened (s : Sheet) (values unset kinds : List ℕ) (k : ℕ) : Type 0
   pub inside : k < length (entries s)
   pub unsettled : ¬ (getD unset k 0 ≡ 0)
 
--- and is settled
+-- it is settled
 module _ {s : Sheet} {values unset kinds : List ℕ} {k : ℕ} (O : Opened s values unset kinds k) where
   pub below : k < 272
   below = omega (arith, O .inside, O .kinds-are .few)
@@ -129,7 +127,7 @@ module _ {s : Sheet} {values unset kinds : List ℕ} {k : ℕ} (O : Opened s val
   pub opens-fewer : opens (set unset k 0) (length (entries s)) + 1 ≡ opens unset (length (entries s))
   opens-fewer = opens-past (length (entries s)) (O .inside)
 
-  -- and is opened again
+  -- it is opened again
   pub values-back : set values k 0 ≡ values
   values-back = rw (was .1) at (set-getD values k 0)
 
@@ -153,7 +151,7 @@ module _ {s : Sheet} {values unset kinds : List ℕ} {k : ℕ} (O : Opened s val
     }
 
     -- what completes the wider choice, and has v at k, completes the narrower
-    pub completes-narrower : (c : List ℕ) → getD c k 0 ≡ v → Completes s values unset c → Completes s (set values k v) (set unset k 0) c
+    completes-narrower : (c : List ℕ) → getD c k 0 ≡ v → Completes s values unset c → Completes s (set values k v) (set unset k 0) c
     completes-narrower c e C = record {
       is-choice = C .is-choice;
       agrees = λ i h z. elim (ℕ-discrete i k) [
@@ -197,9 +195,9 @@ begun-more n i tables values unset h g b = record {
   ];
 }
 
-module _ (s : Sheet) (tables values unset : List ℕ) (i : ℕ) (B : Begun (length (entries s)) tables i values unset) where
+module _ {s : Sheet} {tables values unset : List ℕ} {i : ℕ} (B : Begun (length (entries s)) tables i values unset) where
   -- what has the entries of the tables before i completes what was begun
-  pub begun-completes : (c : List ℕ) → IsChoice s c → Alike i c tables → Completes s values unset c
+  begun-completes : (c : List ℕ) → IsChoice s c → Alike i c tables → Completes s values unset c
   begun-completes c f a = record {
     is-choice = f;
     agrees = λ k h z. elim (decLt k i) [ yes l ↦ a k l ∙ sym (B .settled k l .0) | no g ↦ absurd (omega (arith, B .left k (omega arith) h .1)) ];
@@ -222,7 +220,7 @@ module _ (s : Sheet) (tables values unset : List ℕ) (i : ℕ) (B : Begun (leng
 abbrev pub Lost : Sheet → ℕ → List ℕ → ℕ → Type 0
 Lost s i tables u = (c : List ℕ) → IsChoice s c → Alike i c tables → getD c i 0 ≡ u → loops s c ≡ true
 
--- entry i of the witness gets its least value
+-- entry i of a witness gets its least value
 pub record Settling (s : Sheet) (kinds : List ℕ) (i : ℕ) (tables : List ℕ) : Type 0 where
   pub good : Good s
   pub kinds-are : Kinds s kinds
@@ -230,7 +228,7 @@ pub record Settling (s : Sheet) (kinds : List ℕ) (i : ℕ) (tables : List ℕ)
   pub witness : Witness s tables
 
 module _ {s : Sheet} {kinds : List ℕ} {i : ℕ} {tables : List ℕ} (S : Settling s kinds i tables) where
-  -- with the lower values the sheet is lost
+  -- each value below v is lost
   abbrev pub Lower : ℕ → Type 0
   Lower v = Trying (kindOf (getD kinds i 0)) (Lost s i tables) v
 
@@ -244,14 +242,14 @@ module _ {s : Sheet} {kinds : List ℕ} {i : ℕ} {tables : List ℕ} (S : Settl
     pub begun-opened : Opened s values unset kinds i
     begun-opened = record {
       kinds-are = S .kinds-are;
-      ready = begun-ready s tables values unset i B (S .good) (S .kinds-are .few) (λ k h. rw (chosen-at s tables k (omega (arith, S .inside))) at (fits-at (S .witness .choice) (kindOf 0) k (omega (arith, S .inside))));
+      ready = begun-ready B (S .good) (S .kinds-are .few) (λ k h. rw (chosen-at s tables k (omega (arith, S .inside))) at (fits-at (S .witness .choice) (kindOf 0) k (omega (arith, S .inside))));
       inside = S .inside;
       unsettled = λ e. omega (arith, B .left i (le-refl i) (S .inside) .1);
     }
 
     module _ (v : ℕ) where
       pub begun-lost : Barren s (set values i v) (set unset i 0) → Lost s i tables v
-      begun-lost barren c f a e = barren c (completes-narrower begun-opened v c e (begun-completes s tables values unset i B c f a))
+      begun-lost barren c f a e = barren c (completes-narrower begun-opened v c e (begun-completes B c f a))
 
       pub begun-found : (new : List ℕ) → Found s (set values i v) (set unset i 0) new → Lower v → Least s i tables new
       begun-found new F T = record { witness = F .witness; same = same; lowest = lowest new v same (omega (arith, is)) T }
@@ -299,4 +297,4 @@ leading-first s tables good P = first-is s good (chosen s tables) record {
 pub nothing-first : (s : Sheet) (tables values unset : List ℕ) → Good s → Begun (length (entries s)) tables 0 values unset → Barren s values unset → firstChoice s ≡ none
 unfolding keeps
 nothing-first s tables values unset good B barren =
-    none-is s good (λ c f. rw (barren c (begun-completes s tables values unset 0 B c f (λ k h. absurd (omega arith)))))
+    none-is s good (λ c f. rw (barren c (begun-completes B c f (λ k h. absurd (omega arith)))))

@@ -1,11 +1,11 @@
--- `search::search` meets its contract; its measure is the count of entries that are still open. Of the loop: P holds for each value tried, and the partial choice is that of the entry but for k, which is settled.
+-- `search::search` meets its contract. Its measure is `left`, the count of entries still open. The loop's invariant: with each lower value at k the partial choice is barren, and but for k, which is settled, it is that of the entry.
 use mathlib.Core.Path.{_≡_, refl, sym, ap, subst, subst₂, subst₃, _∙_}
 use mathlib.Core.Bool.{true}
 use mathlib.Core.List.{List}
 use Prim.Native.Nat.{ℕ, _+_, _-_, _<_, _≤_}
 use native.Mathlib.Omega.{arith}
-use lib.ListN.{length, getD, set, length-set}
-use lib.Seq.{set-set, set-getD}
+use lib.ListN.{length, getD, set}
+use lib.Seq.{set-set}
 use borrow.Fn.Kinds.{In, Out}
 use borrow.Fn.PlainCycle.{Measures, is, falls, and}
 use borrow.Author.Needs.{needs}
@@ -15,7 +15,7 @@ use Rattle.sheet.specs.Struct.{sheetOf}
 use Rattle.layout.specs.Codes.{kindOf}
 use Rattle.partial.specs.Says.{Barren, ExploredSays, Work}
 use Rattle.search.specs.Search.{Kinds, Ready, opens}
-use Rattle.search.specs.Says.{Finds, Refuted, Found}
+use Rattle.search.specs.Says.{Finds}
 use Rattle.partial.specs.declared.Explored.{Explored}
 use Rattle.search.specs.declared.Searched.{Searched}
 use Rattle.search.proofs.Laws.{Trying, trying-none, trying-more, completed, Opened, below, opens-fewer, values-back, unset-back, set-ready, found-wider, all-tried}
@@ -48,7 +48,7 @@ abbrev claims : ℕ → search-lts.Claims
 claims t = (explore-reads.Asked, explore-reads.Learnt, next-value-reads.Asked, next-value-reads.Learnt, search-below t, search′.Post)
 
 module _ (t : ℕ) where
-  -- a need, or a place
+  -- a need, or a place of the code
   abbrev Of : (search-lts.Claims → In 8 search-kinds.ps → Out 8 search-kinds.ps search-kinds.r → search-lts.InvT-loop → search-lts.MeasureT-loop → Type 0) → Type 0
   Of N = N (claims t) (search-at t) search′.Post search-Inv-loop search-μ-loop
 
@@ -69,12 +69,22 @@ module _ (t : ℕ) where
     abbrev few : opens (b .args .unset .now) (length (entries s)) ≤ b .args .left
     few = b .pre .1 .1 .1 .1 .1 .0
 
-  -- explore asked for k
+  -- explore is back
+  abbrev Explore : Type 0
+  Explore = Of search-lts.After-explore
+
+  abbrev exploring : Explore → Started
+  exploring e = e .before .before .before .before .before .before .before .before .before .before
+
+  said : (e : Explore) (r : Explored) → e .explore .result ≡ r → ExploredSays (s (exploring e)) (exploring e .args .values .now) (exploring e .args .unset .now) r
+  said e r is = let b = exploring e in subst (λ (r : Explored). ExploredSays (s b) (b .args .values .now) (b .args .unset .now) r) is (e .explore .ensures .0)
+
+  -- it asked for k
   abbrev Asking : Type 0
   Asking = Of search-lts.After-explored
 
   abbrev started : Asking → Started
-  started a = a .before .before .before .before .before .before .before .before .before .before .before .before
+  started a = exploring (a .before .before)
 
   abbrev k : Asking → ℕ
   k a = a .explored .given .0 .0
@@ -82,10 +92,10 @@ module _ (t : ℕ) where
   opened : (a : Asking) → Opened (s (started a)) (started a .args .values .now) (started a .args .unset .now) (started a .args .kinds .now) (k a)
   opened a =
       let b = started a in
-      let says = subst (λ (r : Explored). ExploredSays (s b) (b .args .values .now) (b .args .unset .now) r) (a .explored .given .1) (a .before .before .explore .ensures .0) in
+      let says = said (a .before .before) _ (a .explored .given .1) in
       record { kinds-are = kinds-are b; ready = ready b; inside = says .0; unsettled = says .1 }
 
-  -- in the loop, with v at k, the partial choice is that of the entry with v at k
+  -- in the loop: with v at k, the partial choice is that of the entry with v at k
   abbrev Looping : Type 0
   Looping = Of search-lts.At-loop
 
@@ -206,27 +216,19 @@ module _ (t : ℕ) where
 
   search-returns-3 : Of search-lts.Need-returns-3
   search-returns-3 c =
-      let e = c .before .before .explore in
-      let b = c .before .before .before .before .before .before .before .before .before .before .before .before in (
-        record {
-          barren = subst (λ (r : Explored). ExploredSays (s b) (b .args .values .now) (b .args .unset .now) r) (c .enum-told .given .1) (e .ensures .0);
-          same-values = refl;
-          same-unset = refl;
-        },
-        e .ensures .1,
-      )
+      let e = c .before .before in
+      (record { barren = said e _ (c .enum-told .given .1); same-values = refl; same-unset = refl }, e .explore .ensures .1)
 
   search-returns-4 : Of search-lts.Need-returns-4
   search-returns-4 c =
-      let e = c .before .before .explore in
-      let b = c .before .before .before .before .before .before .before .before .before .before .before .before in
-      let all = subst (λ (r : Explored). ExploredSays (s b) (b .args .values .now) (b .args .unset .now) r) (c .enum-told2 .given .1) (e .ensures .0) in
-      let done = completed (s b) (b .args .values .now) (b .args .unset .now) (ready b .choice) in (
+      let e = c .before .before in
+      let r = ready (exploring e) in
+      let done = completed _ _ _ (r .choice) in (
         record {
-          witness = record { long = ready b .values-long; choice = ready b .choice; keeps = all _ done };
+          witness = record { long = r .values-long; choice = r .choice; keeps = said e _ (c .enum-told2 .given .1) _ done };
           agrees = done .agrees;
         },
-        e .ensures .1,
+        e .explore .ensures .1,
       )
 
   search-returns-5 : Of search-lts.Need-returns-5

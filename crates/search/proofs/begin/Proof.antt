@@ -6,8 +6,6 @@ use Rattle.search.specs.Search.{Begun}
 use Rattle.search.proofs.Laws.{begun-none, begun-more}
 use Rattle.search.proofs.begin.Statement.{statement}
 use Rattle.search.proofs.begin.Tie as tie
-use Rattle.search.proofs.begin.Reads as reads
-use Rattle.search.proofs.begin.Lts as lts
 
 abbrev Inv-loop : tie.InvT-loop
 Inv-loop values₀ unset₀ tables i n k₀ values unset k = (i ≤ k) × (k ≤ n) × Begun k tables i values unset

@@ -1,6 +1,5 @@
 -- `search::first` meets its contract. The loop's invariant: each entry that was settled is as low as it can be.
-use mathlib.Core.Path.{_≡_, refl, sym, ap, subst, _∙_}
-use mathlib.Core.List.{List}
+use mathlib.Core.Path.{_≡_, subst}
 use Prim.Native.Nat.{ℕ, _-_, _≤_}
 use native.Mathlib.Omega.{arith}
 use lib.ListN.{length}
@@ -9,17 +8,12 @@ use Rattle.model.specs.Sheet.{Sheet}
 use Rattle.model.specs.Choice.{entries}
 use Rattle.sheet.specs.Struct.{sheetOf}
 use Rattle.partial.specs.Says.{Work}
-use Rattle.search.specs.Search.{Kinds, Ready, Begun}
+use Rattle.search.specs.Search.{Kinds, Begun}
 use Rattle.search.specs.Says.{Finds}
 use Rattle.search.specs.declared.Searched.{Searched}
 use Rattle.search.proofs.Laws.{opens-few, begun-ready, Leading, leading-none, leading-more, leading-first, nothing-first}
 use Rattle.search.proofs.first.Statement.{statement}
 use Rattle.search.proofs.first.Tie as tie
-use Rattle.search.proofs.first.Reads as reads
-use Rattle.search.proofs.first.Lts as lts
-use Rattle.search.proofs.begin.Reads as begin-reads
-use Rattle.search.proofs.search.Reads as search-reads
-use Rattle.search.proofs.settle.Reads as settle-reads
 
 abbrev Inv-loop : tie.InvT-loop
 Inv-loop witness₀ n values₀ unset₀ sheet kinds numbers₀ stack₀ waiting₀ targets₀ steps₀ i₀ witness values unset numbers stack waiting targets steps i =
@@ -53,7 +47,7 @@ started g = g .before .before .before .before
 begun : (g : Begin) → Begun (length (entries (s (started g)))) (started g .args .witness .now) 0 (g .begin .last .0) (g .begin .last .1 .0)
 begun g = subst (λ (n : ℕ). Begun n (started g .args .witness .now) 0 (g .begin .last .0) (g .begin .last .1 .0)) (count (started g)) (g .begin .ensures)
 
--- what the search said of it
+-- the search is back: what it said of that
 abbrev Back : Type 0
 Back = At tie.After-search
 
@@ -75,7 +69,7 @@ search-requires : tie.Need-search-requires Inv-loop μ-loop
 search-requires c κs =
     let g = c .before .before .before .before .before .before .before in
     let b = started g in
-    let r = begun-ready (s b) _ _ _ 0 (begun g) (b .pre .0) (kinds-are b .few) (λ k h. absurd (omega arith)) in
+    let r = begun-ready (begun g) (b .pre .0) (kinds-are b .few) (λ k h. absurd (omega arith)) in
     (b .pre .0, (b .pre .1 .0, (kinds-are b, (r, (omega (arith, opens-few (s b) _ _ r, count b), b .pre .1 .1 .1 .1 .1 .1)))))
 
 enum-told : tie.Need-enum-told Inv-loop μ-loop

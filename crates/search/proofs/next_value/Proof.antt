@@ -7,12 +7,8 @@ use borrow.Author.Needs.{needs}
 use borrow.Author.Count.{below-more}
 use Rattle.model.specs.Choice.{may}
 use Rattle.layout.specs.Codes.{kindOf}
-use Rattle.search.specs.Search.{NextValue}
 use Rattle.search.proofs.next_value.Statement.{statement}
 use Rattle.search.proofs.next_value.Tie as tie
-use Rattle.search.proofs.next_value.Reads as reads
-use Rattle.search.proofs.next_value.Lts as lts
-use Rattle.layout.proofs.may_be.Reads as may-be-reads
 
 abbrev Inv-loop : tie.InvT-loop
 Inv-loop kind from v₀ v = (from ≤ v) × (v ≤ 256) × ((u : ℕ) → u < v → may (kindOf kind) u ≡ true → u < from)

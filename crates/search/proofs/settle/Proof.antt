@@ -1,8 +1,8 @@
 -- `search::settle` meets its contract. The loop's invariant: with each lower value at i, no choice keeps the sheet, and the witness is as it was.
-use mathlib.Core.Path.{_≡_, refl, sym, ap, subst, subst⁻¹, subst₂, _∙_}
+use mathlib.Core.Path.{_≡_, refl, ap, subst, subst⁻¹, subst₂, _∙_}
 use mathlib.Core.Bool.{true}
 use mathlib.Core.List.{List}
-use Prim.Native.Nat.{ℕ, _+_, _-_, _<_, _≤_}
+use Prim.Native.Nat.{ℕ, _-_}
 use native.Mathlib.Omega.{arith}
 use lib.ListN.{length, getD, set}
 use borrow.Author.Needs.{needs}
@@ -10,19 +10,13 @@ use Rattle.model.specs.Sheet.{Sheet}
 use Rattle.model.specs.Choice.{may, entries}
 use Rattle.sheet.specs.Struct.{sheetOf}
 use Rattle.layout.specs.Codes.{kindOf}
-use Rattle.partial.specs.Says.{Barren, Work}
+use Rattle.partial.specs.Says.{Work}
 use Rattle.search.specs.Search.{Kinds, Witness, Begun, Least}
 use Rattle.search.specs.Says.{Finds}
 use Rattle.search.specs.declared.Searched.{Searched}
 use Rattle.search.proofs.Laws.{Trying, trying-none, trying-more, Opened, set-ready, opens-few, Lost, Settling, least-same, begun-opened, begun-lost, begun-found}
 use Rattle.search.proofs.settle.Statement.{statement}
 use Rattle.search.proofs.settle.Tie as tie
-use Rattle.search.proofs.settle.Reads as reads
-use Rattle.search.proofs.settle.Lts as lts
-use Rattle.search.proofs.begin.Reads as begin-reads
-use Rattle.search.proofs.next_value.Reads as next-value-reads
-use Rattle.search.proofs.search.Reads as search-reads
-use Rattle.search.proofs.wide.Reads as wide-reads
 
 abbrev Inv-loop : tie.InvT-loop
 Inv-loop witness₀ i n values₀ unset₀ sheet kinds numbers₀ stack₀ waiting₀ targets₀ steps₀ kind most v₀ witness values unset numbers stack waiting targets steps v =
@@ -43,11 +37,14 @@ module _ (b : At tie.Start) where
   abbrev kinds-are : Kinds s (b .args .kinds .now)
   kinds-are = b .pre .1 .1 .0
 
+  abbrev count : b .args .n ≡ length (entries s)
+  count = b .pre .1 .1 .1 .0 .0
+
   abbrev witness : Witness s (b .args .witness .now)
   witness = b .pre .1 .1 .1 .1 .0
 
   settling : Settling s (b .args .kinds .now) (b .args .i) (b .args .witness .now)
-  settling = record { good = b .pre .0; kinds-are = kinds-are; inside = omega (arith, b .pre .1 .1 .1 .0 .0, b .pre .1 .1 .1 .0 .1); witness = witness }
+  settling = record { good = b .pre .0; kinds-are = kinds-are; inside = omega (arith, count, b .pre .1 .1 .1 .0 .1); witness = witness }
 
 -- the partial choice is begun
 abbrev Begin : Type 0
@@ -61,19 +58,25 @@ started g = g .before .before .before .before .before .before .before .before .b
 
 begun : (g : Begin) → Begun (length (entries (s (started g)))) (started g .args .witness .now) (started g .args .i) (g .begin .last .0) (g .begin .last .1 .0)
 begun g =
-    subst₂ (λ (n : ℕ) (w : List ℕ). Begun n w (started g .args .i) (g .begin .last .0) (g .begin .last .1 .0)) (started g .pre .1 .1 .1 .0 .0) (looping g .loop .inv .1) (g .begin .ensures)
+    subst₂ (λ (n : ℕ) (w : List ℕ). Begun n w (started g .args .i) (g .begin .last .0) (g .begin .last .1 .0)) (count (started g)) (looping g .loop .inv .1) (g .begin .ensures)
 
 opened : (g : Begin) → Opened (s (started g)) (g .begin .last .0) (g .begin .last .1 .0) (started g .args .kinds .now) (started g .args .i)
 opened g = begun-opened (settling (started g)) (begun g)
 
--- what the search said of it, with v at i
-told : (f : At tie.After-search) (r : Searched) → f .search .result ≡ r →
-    let g : Begin = f .before .before .before .before .before .before .before .before in
+-- the search is back: what it said of that, with v at i
+abbrev Back : Type 0
+Back = At tie.After-search
+
+abbrev asking : Back → Begin
+asking f = f .before .before .before .before .before .before .before .before
+
+told : (f : Back) (r : Searched) → f .search .result ≡ r →
+    let g = asking f in
     let v = looping g .loop .v in
     let i = started g .args .i in
     Finds (s (started g)) (set (g .begin .last .0) i v) (set (g .begin .last .1 .0) i 0) (f .search .last .0) (f .search .last .1 .0) r
 told f r e =
-    let g : Begin = f .before .before .before .before .before .before .before .before in
+    let g = asking f in
     let i = started g .args .i in
     subst (λ (r : Searched). Finds (s (started g)) (set (g .begin .last .0) i (looping g .loop .v)) (set (g .begin .last .1 .0) i 0) (f .search .last .0) (f .search .last .1 .0) r) e (f .search .ensures .0)
 
@@ -99,7 +102,7 @@ loop-holds c = (trying-none _ _ _ (c .next-value .ensures), refl, c .before .bef
 begin-requires : tie.Need-begin-requires Inv-loop μ-loop
 begin-requires c κs =
     let b = c .before .before .before .before .before .before .before .before .before in
-    ((omega arith, omega (arith, kinds-are b .few, b .pre .1 .1 .1 .0 .0)), ap length (c .before .before .before .before .loop .inv .1) ∙ witness b .long)
+    ((omega arith, omega (arith, kinds-are b .few, count b)), ap length (c .before .before .before .before .loop .inv .1) ∙ witness b .long)
 
 cast-values : tie.Need-cast-values Inv-loop μ-loop
 cast-values c = omega arith
@@ -117,7 +120,7 @@ search-requires c κs =
     let b = started g in
     let m : may (kindOf (getD (b .args .kinds .now) (b .args .i) 0)) (l .loop .v) ≡ true = l .loop .inv .0 .may-be (omega arith) in
     let r = set-ready (opened g) (l .loop .v) m in
-    (b .pre .0, (b .pre .1 .0, (kinds-are b, (r, (omega (arith, opens-few (s b) _ _ r, b .pre .1 .1 .1 .0 .0), l .loop .inv .2)))))
+    (b .pre .0, (b .pre .1 .0, (kinds-are b, (r, (omega (arith, opens-few (s b) _ _ r, count b), l .loop .inv .2)))))
 
 enum-told : tie.Need-enum-told Inv-loop μ-loop
 enum-told c = search needs
@@ -125,7 +128,7 @@ enum-told c = search needs
 returns : tie.Need-returns Inv-loop μ-loop
 returns c =
     let f = c .before .before .before in
-    let g = f .before .before .before .before .before .before .before .before in
+    let g = asking f in
     let l = looping g in
     (begun-found (settling (started g)) (begun g) (l .loop .v) _ (told f _ (c .before .enum-told .given .1)) (l .loop .inv .0), f .search .ensures .1)
 
@@ -144,7 +147,7 @@ loop-less c = omega arith
 loop-again : tie.Need-loop-again Inv-loop μ-loop
 loop-again c =
     let f = c .before .before .before in
-    let g = f .before .before .before .before .before .before .before .before in
+    let g = asking f in
     let l = looping g in
     let r = told f _ (c .before .enum-told2 .given .1) in
     (trying-more _ _ _ _ (c .next-value2 .ensures) (l .loop .inv .0) (begun-lost (settling (started g)) (begun g) (l .loop .v) (r .barren)), l .loop .inv .1, f .search .ensures .1)
