@@ -30,6 +30,10 @@ fn first_tables(witness: &mut [u8; 272], sheet: Sheet, a: Architecture) -> Searc
 {
     let mut kinds = [0u16; 272];
     let n = layout::fill_kinds(&mut kinds, a);
+    let mut rows = [0u16; 1024];
+    let mut places = [0u8; 1024];
+    let mut met = [0u16; 4096];
+    lookup::prepare(&mut rows, &mut places, &mut met, sheet, a);
     let mut values = [0u8; 272];
     let mut unset = [0u8; 272];
     let mut numbers = [0u16; 4096];
@@ -43,6 +47,10 @@ fn first_tables(witness: &mut [u8; 272], sheet: Sheet, a: Architecture) -> Searc
         &mut values,
         &mut unset,
         sheet,
+        a,
+        &rows,
+        &places,
+        &met,
         &kinds,
         &mut numbers,
         &mut stack,

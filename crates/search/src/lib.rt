@@ -4,11 +4,14 @@ ghost use Prim.Native.Nat.{_<_, _≤_};
 ghost use lib.ListN.{length};
 ghost use Rattle.model.specs.Choice.{entries as entriesOf};
 ghost use Rattle.model.proofs.Sheet.{Good};
-ghost use Rattle.sheet.specs.Struct.{sheetOf, Sized};
+ghost use Rattle.sheet.specs.Struct.{sheetOf};
+ghost use Rattle.machine.specs.Struct.{ArchitectureOf};
 ghost use Rattle.layout.specs.Codes.{kindOf};
+ghost use Rattle.lookup.specs.Lookup.{Prepared};
 ghost use Rattle.partial.specs.Says.{Work};
 ghost use Rattle.search.specs.Search.{Ready, opens, NextValue, Kinds, Witness, Begun, Least};
 ghost use Rattle.search.specs.Says.{Finds, Leads};
+use machine::Architecture;
 use partial::Explored;
 use sheet::Sheet;
 
@@ -38,6 +41,10 @@ pub fn search(
     unset: &mut [u8; 272],
     left: usize,
     sheet: Sheet,
+    a: Architecture,
+    rows: &[u16],
+    places: &[u8],
+    met: &[u16],
     kinds: &[u16; 272],
     numbers: &mut [u16; 4096],
     stack: &mut [u16; 4096],
@@ -46,7 +53,7 @@ pub fn search(
     steps: &mut [u16; 4096],
 ) -> Searched
     requires { ⌜ Good (sheetOf sheet) ⌝ }
-    requires { ⌜ Sized sheet ⌝ }
+    requires { ⌜ ArchitectureOf (sheetOf sheet) a × Prepared (sheetOf sheet) a (now rows) (now places) (now met) ⌝ }
     requires { ⌜ Kinds (sheetOf sheet) (now kinds) ⌝ }
     requires { ⌜ Ready (sheetOf sheet) (now values) (now unset) ⌝ }
     requires { ⌜ opens (now unset) (length (entriesOf (sheetOf sheet))) ≤ left ⌝ }
@@ -61,6 +68,10 @@ pub fn search(
         targets,
         steps,
         sheet,
+        a,
+        rows,
+        places,
+        met,
         values,
         unset,
     );
@@ -81,6 +92,10 @@ pub fn search(
                     unset,
                     left - 1,
                     sheet,
+                    a,
+                    rows,
+                    places,
+                    met,
                     kinds,
                     numbers,
                     stack,
@@ -132,6 +147,10 @@ fn settle(
     values: &mut [u8; 272],
     unset: &mut [u8; 272],
     sheet: Sheet,
+    a: Architecture,
+    rows: &[u16],
+    places: &[u8],
+    met: &[u16],
     kinds: &[u16; 272],
     numbers: &mut [u16; 4096],
     stack: &mut [u16; 4096],
@@ -140,7 +159,7 @@ fn settle(
     steps: &mut [u16; 4096],
 )
     requires { ⌜ Good (sheetOf sheet) ⌝ }
-    requires { ⌜ Sized sheet ⌝ }
+    requires { ⌜ ArchitectureOf (sheetOf sheet) a × Prepared (sheetOf sheet) a (now rows) (now places) (now met) ⌝ }
     requires { ⌜ Kinds (sheetOf sheet) (now kinds) ⌝ }
     requires { ⌜ (n ≡ length (entriesOf (sheetOf sheet))) × (i < n) ⌝ }
     requires { ⌜ Witness (sheetOf sheet) (now witness) ⌝ }
@@ -160,6 +179,10 @@ fn settle(
             unset,
             n,
             sheet,
+            a,
+            rows,
+            places,
+            met,
             kinds,
             numbers,
             stack,
@@ -185,6 +208,10 @@ pub fn first(
     values: &mut [u8; 272],
     unset: &mut [u8; 272],
     sheet: Sheet,
+    a: Architecture,
+    rows: &[u16],
+    places: &[u8],
+    met: &[u16],
     kinds: &[u16; 272],
     numbers: &mut [u16; 4096],
     stack: &mut [u16; 4096],
@@ -193,7 +220,7 @@ pub fn first(
     steps: &mut [u16; 4096],
 ) -> Searched
     requires { ⌜ Good (sheetOf sheet) ⌝ }
-    requires { ⌜ Sized sheet ⌝ }
+    requires { ⌜ ArchitectureOf (sheetOf sheet) a × Prepared (sheetOf sheet) a (now rows) (now places) (now met) ⌝ }
     requires { ⌜ Kinds (sheetOf sheet) (now kinds) ⌝ }
     requires { ⌜ n ≡ length (entriesOf (sheetOf sheet)) ⌝ }
     requires { ⌜ length (now witness) ≡ 272 ⌝ }
@@ -207,6 +234,10 @@ pub fn first(
         unset,
         n,
         sheet,
+        a,
+        rows,
+        places,
+        met,
         kinds,
         numbers,
         stack,
@@ -228,6 +259,10 @@ pub fn first(
             values,
             unset,
             sheet,
+            a,
+            rows,
+            places,
+            met,
             kinds,
             numbers,
             stack,

@@ -26,15 +26,27 @@ kinds-are c =
     let f = c .fill-kinds in
     record { long = f .kept .0; few = omega (arith, many c, f .ensures .0 .1); are = rw (← many c) (f .ensures .1 ∙ same-entries _ _ (c .before .before .pre .1 .1 .0)) }
 
+prepare-requires : tie.Need-prepare-requires
+prepare-requires c κs = let p = c .before .before .before .before .before .before .pre in ((refl, refl, refl), (p .0, (p .1 .0, p .1 .1 .0)))
+
+slice-aggregate-first : tie.Need-slice-aggregate-first
+slice-aggregate-first c = search needs
+
+slice-aggregate-first-2 : tie.Need-slice-aggregate-first-2
+slice-aggregate-first-2 c = search needs
+
+slice-aggregate-first-3 : tie.Need-slice-aggregate-first-3
+slice-aggregate-first-3 c = search needs
+
 first-requires : tie.Need-first-requires
 first-requires c κs =
-    let p = c .before .before .before .before .before .before .before .before .before .before .before .before .pre in
-    let filled = c .before .before .before .before .before .before .before .before .before .before in
-    (p .0, (p .1 .0, (kinds-are filled, (many filled, (p .1 .1 .1, ((refl {a = 272}, refl {a = 272}), record { numbers-long = refl {a = 4096}; stack-long = refl {a = 4096}; waiting-long = refl {a = 4096}; targets-long = refl {a = 4096}; steps-long = refl {a = 4096} }))))))
+    let p = c .before .before .before .before .before .before .before .before .before .before .before .before .before .before .before .before .before .before .before .pre in
+    let filled = c .before .before .before .before .before .before .before .before .before .before .before .before .before .before .before .before .before in
+    (p .0, ((p .1 .1 .0, c .before .before .before .before .before .before .before .before .before .before .before .before .prepare .ensures), (kinds-are filled, (many filled, (p .1 .1 .1, ((refl {a = 272}, refl {a = 272}), record { numbers-long = refl {a = 4096}; stack-long = refl {a = 4096}; waiting-long = refl {a = 4096}; targets-long = refl {a = 4096}; steps-long = refl {a = 4096} }))))))
 
 returns : tie.Need-returns
 returns c = search needs
 
 pub first-tables-spec : {M : Type 1} → statement M
 first-tables-spec =
-    tie.close (tie.spec slice-aggregate-fill-kinds fill-kinds-requires first-requires returns)
+    tie.close (tie.spec slice-aggregate-fill-kinds fill-kinds-requires prepare-requires slice-aggregate-first slice-aggregate-first-2 slice-aggregate-first-3 first-requires returns)

@@ -27,21 +27,21 @@ use Rattle.search.proofs.next_value.Reads as next-value-reads
 use Rattle.search.proofs.+search.{statement}
 use Rattle.search.proofs.+search.Tie.{close}
 
-abbrev μ-search : Measures 8 search-kinds.ps ℕ
+abbrev μ-search : Measures 11 search-kinds.ps ℕ
 μ-search κs a = a .1 .1 .0
 
-abbrev search-at : ℕ → In 8 search-kinds.ps
-search-at t = and 8 search-kinds.ps (is 8 search-kinds.ps μ-search t) search′.Pre
+abbrev search-at : ℕ → In 11 search-kinds.ps
+search-at t = and 11 search-kinds.ps (is 11 search-kinds.ps μ-search t) search′.Pre
 
-abbrev search-below : ℕ → In 8 search-kinds.ps
-search-below t = and 8 search-kinds.ps (falls 8 search-kinds.ps _<_ μ-search t) search′.Pre
+abbrev search-below : ℕ → In 11 search-kinds.ps
+search-below t = and 11 search-kinds.ps (falls 11 search-kinds.ps _<_ μ-search t) search′.Pre
 
 abbrev search-Inv-loop : search-lts.InvT-loop
-search-Inv-loop values₀ unset₀ left sheet kinds numbers₀ stack₀ waiting₀ targets₀ steps₀ k kind v₀ values unset numbers stack waiting targets steps v =
+search-Inv-loop values₀ unset₀ left sheet a rows places met kinds numbers₀ stack₀ waiting₀ targets₀ steps₀ k kind v₀ values unset numbers stack waiting targets steps v =
     Trying (kindOf kind) (λ u. Barren (sheetOf sheet) (set values₀ k u) unset₀) v × (set values k 0 ≡ values₀) × (unset ≡ unset₀) × Work numbers stack waiting targets steps
 
 abbrev search-μ-loop : search-lts.MeasureT-loop
-search-μ-loop values₀ unset₀ left sheet kinds numbers₀ stack₀ waiting₀ targets₀ steps₀ k kind v₀ values unset numbers stack waiting targets steps v =
+search-μ-loop values₀ unset₀ left sheet a rows places met kinds numbers₀ stack₀ waiting₀ targets₀ steps₀ k kind v₀ values unset numbers stack waiting targets steps v =
     256 - v
 
 abbrev claims : ℕ → search-lts.Claims
@@ -49,7 +49,7 @@ claims t = (explore-reads.Asked, explore-reads.Learnt, next-value-reads.Asked, n
 
 module _ (t : ℕ) where
   -- a need, or a place of the code
-  abbrev Of : (search-lts.Claims → In 8 search-kinds.ps → Out 8 search-kinds.ps search-kinds.r → search-lts.InvT-loop → search-lts.MeasureT-loop → Type 0) → Type 0
+  abbrev Of : (search-lts.Claims → In 11 search-kinds.ps → Out 11 search-kinds.ps search-kinds.r → search-lts.InvT-loop → search-lts.MeasureT-loop → Type 0) → Type 0
   Of N = N (claims t) (search-at t) search′.Post search-Inv-loop search-μ-loop
 
   -- ---- places
@@ -74,7 +74,7 @@ module _ (t : ℕ) where
   Explore = Of search-lts.After-explore
 
   abbrev exploring : Explore → Started
-  exploring e = e .before .before .before .before .before .before .before .before .before .before
+  exploring e = e .before .before .before .before .before .before .before .before .before .before .before .before .before
 
   said : (e : Explore) (r : Explored) → e .explore .result ≡ r → ExploredSays (s (exploring e)) (exploring e .args .values .now) (exploring e .args .unset .now) r
   said e r is = let b = exploring e in subst (λ (r : Explored). ExploredSays (s b) (b .args .values .now) (b .args .unset .now) r) is (e .explore .ensures .0)
@@ -123,8 +123,8 @@ module _ (t : ℕ) where
   -- ---- needs
   search-explore-requires : Of search-lts.Need-explore-requires
   search-explore-requires c κs =
-      let b = c .before .before .before .before .before .before .before .before .before in
-      (b .pre .1 .0, (b .pre .1 .1 .0, (ready b .choice, (omega (arith, ready b .unset-long, kinds-are b .few), b .pre .1 .1 .1 .1 .1 .1))))
+      let b = c .before .before .before .before .before .before .before .before .before .before .before .before in
+      (b .pre .1 .0, (b .pre .1 .1 .0 .0, (b .pre .1 .1 .0 .1, (ready b .choice, (omega (arith, ready b .unset-long, kinds-are b .few), b .pre .1 .1 .1 .1 .1 .1)))))
 
   search-enum-told : Of search-lts.Need-enum-told
   search-enum-told c = search needs

@@ -16,11 +16,11 @@ use Rattle.search.proofs.first.Statement.{statement}
 use Rattle.search.proofs.first.Tie as tie
 
 abbrev Inv-loop : tie.InvT-loop
-Inv-loop witness₀ n values₀ unset₀ sheet kinds numbers₀ stack₀ waiting₀ targets₀ steps₀ i₀ witness values unset numbers stack waiting targets steps i =
+Inv-loop witness₀ n values₀ unset₀ sheet a rows places met kinds numbers₀ stack₀ waiting₀ targets₀ steps₀ i₀ witness values unset numbers stack waiting targets steps i =
     (i ≤ n) × Leading (sheetOf sheet) i witness × Work numbers stack waiting targets steps
 
 abbrev μ-loop : tie.MeasureT-loop
-μ-loop witness₀ n values₀ unset₀ sheet kinds numbers₀ stack₀ waiting₀ targets₀ steps₀ i₀ witness values unset numbers stack waiting targets steps i =
+μ-loop witness₀ n values₀ unset₀ sheet a rows places met kinds numbers₀ stack₀ waiting₀ targets₀ steps₀ i₀ witness values unset numbers stack waiting targets steps i =
     n - i
 
 -- ---- places
@@ -42,7 +42,7 @@ abbrev Begin : Type 0
 Begin = At tie.After-begin
 
 abbrev started : Begin → At tie.Start
-started g = g .before .before .before .before
+started g = g .before .before .before .before .before .before .before
 
 begun : (g : Begin) → Begun (length (entries (s (started g)))) (started g .args .witness .now) 0 (g .begin .last .0) (g .begin .last .1 .0)
 begun g = subst (λ (n : ℕ). Begun n (started g .args .witness .now) 0 (g .begin .last .0) (g .begin .last .1 .0)) (count (started g)) (g .begin .ensures)
@@ -62,7 +62,7 @@ told f r e =
 -- ---- needs
 begin-requires : tie.Need-begin-requires Inv-loop μ-loop
 begin-requires c κs =
-    let b = c .before .before .before in
+    let b = c .before .before .before .before .before .before in
     ((omega arith, omega (arith, count b, kinds-are b .few)), b .pre .1 .1 .1 .1 .0)
 
 search-requires : tie.Need-search-requires Inv-loop μ-loop
@@ -92,11 +92,11 @@ loop-holds c =
 settle-requires : tie.Need-settle-requires Inv-loop μ-loop
 settle-requires c κs =
     let l = c .before .before .before .before .before .before .before .before .before in
-    let b = l .before .before .before .before .before .before .before .before .before .before .before .before .before .before .before .before in
+    let b = l .before .before .before .before .before .before .before .before .before .before .before .before .before .before .before .before .before .before .before in
     (b .pre .0, (b .pre .1 .0, (kinds-are b, ((count b, c .before .before .before .before .before .before .before .before .loop-test .taken), (l .loop .inv .1 .witness, l .loop .inv .2)))))
 
 add-i : tie.Need-add-i Inv-loop μ-loop
-add-i c = let b = c .before .before .before .before .before .before .before .before .before .before .before .before .before .before .before .before .before .before .before .before .before .before .before .before .before .before in omega (arith, count b, kinds-are b .few, c .before .before .before .before .before .before .before .before .before .loop-test .taken)
+add-i c = let b = c .before .before .before .before .before .before .before .before .before .before .before .before .before .before .before .before .before .before .before .before .before .before .before .before .before .before .before .before .before in omega (arith, count b, kinds-are b .few, c .before .before .before .before .before .before .before .before .before .loop-test .taken)
 
 loop-less : tie.Need-loop-less Inv-loop μ-loop
 loop-less c = omega arith
@@ -109,7 +109,7 @@ loop-again c =
 returns-2 : tie.Need-returns-2 Inv-loop μ-loop
 returns-2 c =
     let l = c .before in
-    let b = c .before .before .before .before .before .before .before .before .before .before .before .before .before .before .before .before .before in
+    let b = c .before .before .before .before .before .before .before .before .before .before .before .before .before .before .before .before .before .before .before .before in
     let e : l .loop .i ≡ length (entries (s b)) = omega (arith, c .loop-test .left, l .loop .inv .0, count b) in
     (l .loop .inv .1 .witness, leading-first (s b) _ (b .pre .0) (subst (λ (i : ℕ). Leading (s b) i (l .loop .witness)) e (l .loop .inv .1)))
 

@@ -19,11 +19,11 @@ use Rattle.search.proofs.settle.Statement.{statement}
 use Rattle.search.proofs.settle.Tie as tie
 
 abbrev Inv-loop : tie.InvT-loop
-Inv-loop witness₀ i n values₀ unset₀ sheet kinds numbers₀ stack₀ waiting₀ targets₀ steps₀ kind most v₀ witness values unset numbers stack waiting targets steps v =
+Inv-loop witness₀ i n values₀ unset₀ sheet a rows places met kinds numbers₀ stack₀ waiting₀ targets₀ steps₀ kind most v₀ witness values unset numbers stack waiting targets steps v =
     Trying (kindOf kind) (Lost (sheetOf sheet) i witness₀) v × (witness ≡ witness₀) × Work numbers stack waiting targets steps
 
 abbrev μ-loop : tie.MeasureT-loop
-μ-loop witness₀ i n values₀ unset₀ sheet kinds numbers₀ stack₀ waiting₀ targets₀ steps₀ kind most v₀ witness values unset numbers stack waiting targets steps v =
+μ-loop witness₀ i n values₀ unset₀ sheet a rows places met kinds numbers₀ stack₀ waiting₀ targets₀ steps₀ kind most v₀ witness values unset numbers stack waiting targets steps v =
     256 - v
 
 -- ---- places
@@ -54,7 +54,7 @@ abbrev looping : Begin → At tie.At-loop
 looping g = g .before .before .before .before .before
 
 abbrev started : Begin → At tie.Start
-started g = g .before .before .before .before .before .before .before .before .before .before
+started g = g .before .before .before .before .before .before .before .before .before .before .before .before .before
 
 begun : (g : Begin) → Begun (length (entries (s (started g)))) (started g .args .witness .now) (started g .args .i) (g .begin .last .0) (g .begin .last .1 .0)
 begun g =
@@ -97,11 +97,11 @@ next-value-requires : tie.Need-next-value-requires Inv-loop μ-loop
 next-value-requires c κs = search needs
 
 loop-holds : tie.Need-loop-holds Inv-loop μ-loop
-loop-holds c = (trying-none _ _ _ (c .next-value .ensures), refl, c .before .before .before .before .pre .1 .1 .1 .1 .1)
+loop-holds c = (trying-none _ _ _ (c .next-value .ensures), refl, c .before .before .before .before .before .before .before .pre .1 .1 .1 .1 .1)
 
 begin-requires : tie.Need-begin-requires Inv-loop μ-loop
 begin-requires c κs =
-    let b = c .before .before .before .before .before .before .before .before .before in
+    let b = c .before .before .before .before .before .before .before .before .before .before .before .before in
     ((omega arith, omega (arith, kinds-are b .few, count b)), ap length (c .before .before .before .before .loop .inv .1) ∙ witness b .long)
 
 cast-values : tie.Need-cast-values Inv-loop μ-loop
@@ -155,7 +155,7 @@ loop-again c =
 returns-2 : tie.Need-returns-2 Inv-loop μ-loop
 returns-2 c =
     let l = c .before in
-    let b = c .before .before .before .before .before .before in
+    let b = c .before .before .before .before .before .before .before .before .before in
     (subst⁻¹ (Least (s b) (b .args .i) (b .args .witness .now)) (l .loop .inv .1) (least-same (settling b) (l .loop .v) (omega (arith, c .before .before .before .wide .ensures .0, c .loop-test .left)) (l .loop .inv .0)), l .loop .inv .2)
 
 pub settle-spec : {M : Type 1} → statement M
