@@ -57,6 +57,14 @@ pub fn case_a() -> Sheet {
     }
 }
 
+/// A with bound 1.
+pub fn case_b() -> Sheet {
+    Sheet {
+        processes: vec![process(0x03, 0x0C, 1)],
+        ..case_a()
+    }
+}
+
 /// A's automaton over two processes; with bounds 2 and 2 it is case D.
 pub fn case_c(first: u8, second: u8) -> Sheet {
     Sheet {
@@ -84,6 +92,14 @@ pub fn case_f(bound: u8) -> Sheet {
     }
 }
 
+/// E with state 0 rejecting.
+pub fn case_g() -> Sheet {
+    Sheet {
+        rejecting: 1,
+        ..case_e()
+    }
+}
+
 /// E with states 0 and 1 and an edge between them.
 pub fn case_h(rejecting: u16) -> Sheet {
     Sheet {
@@ -102,4 +118,23 @@ pub fn case_j() -> Sheet {
         processes: vec![process(0, 0, 4), process(0, 0, 4)],
         ..case_e()
     }
+}
+
+/// The cases that are proper sheets, each with a name.
+pub fn proper_cases() -> Vec<(&'static str, Sheet)> {
+    vec![
+        ("case A", case_a()),
+        ("case B", case_b()),
+        ("case C, bounds 1 and 1", case_c(1, 1)),
+        ("case C, bounds 2 and 1", case_c(2, 1)),
+        ("case C, bounds 1 and 2", case_c(1, 2)),
+        ("case D", case_c(2, 2)),
+        ("case E", case_e()),
+        ("case F, bound 1", case_f(1)),
+        ("case F, bound 4", case_f(4)),
+        ("case G", case_g()),
+        ("case H, 0 rejecting", case_h(0b01)),
+        ("case H, 1 rejecting", case_h(0b10)),
+        ("case J", case_j()),
+    ]
 }

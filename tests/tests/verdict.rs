@@ -11,6 +11,7 @@ use soclethyme_tests::bench::{
     case_c, case_e, case_f, case_h, edge, BOOK_A, BOOK_D, BOOK_E, CASE_A,
 };
 use soclethyme_tests::book::{WRONG_ENTRY, WRONG_FORM};
+use soclethyme_tests::brief;
 use soclethyme_tests::faults;
 use soclethyme_tests::generate::{self, shapes};
 use soclethyme_tests::graph::{RunGraph, BLANK, SHORT_ANNOTATION};
@@ -43,14 +44,6 @@ fn number(verdict: Result<bool, Refusal>) -> u32 {
         Ok(false) => FAILED,
         Err(refusal) => refusal,
     }
-}
-
-/// The numbers in short, each with how often it follows itself, and no more
-/// of them than can be read.
-fn brief(numbers: &[u16]) -> String {
-    let runs = numbers.chunk_by(|one, next| one == next);
-    let runs = runs.map(|run| format!("{}*{}", run[0], run.len()));
-    runs.take(300).collect::<Vec<_>>().join(" ")
 }
 
 /// A sheet and a book with what the independent reading makes of them.

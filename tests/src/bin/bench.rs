@@ -1,16 +1,25 @@
 //! Times annotating on the largest run graphs, by the library and by the
-//! independent run graph. Asserts that they agree, and nothing about time.
+//! independent run graph; then finding, by the library and by plain enumeration
+//! made for speed. Asserts that they agree, and nothing about time.
 
+#[path = "../../tests/find_ffi/mod.rs"]
+mod find_ffi;
 #[path = "../../tests/verdict_ffi/mod.rs"]
 mod verdict_ffi;
 
 use std::hint::black_box;
 use std::time::{Duration, Instant};
 
+use soclethyme_tests::bench::{case_c, proper_cases};
+use soclethyme_tests::book::LONGEST_BOOK;
+use soclethyme_tests::enumerate::count;
+use soclethyme_tests::fast;
 use soclethyme_tests::graph;
+use soclethyme_tests::large::{opening, relay, three_clients};
+use soclethyme_tests::page::Page;
 use soclethyme_tests::rng::Rng;
 use soclethyme_tests::runs::{self, Clock, Run, LONGEST_CLOCK};
-use soclethyme_tests::sheet::{MOST_COMPOSED, MOST_EDGES, MOST_STATES};
+use soclethyme_tests::sheet::{Sheet, MOST_COMPOSED, MOST_EDGES, MOST_STATES};
 
 const SEED: u64 = 0x5EED_0004;
 
@@ -137,6 +146,57 @@ fn measure(named: &Named) {
     );
 }
 
+/// The specification's cases, and sheets with ten million choices and more: one
+/// found after a quarter of them, two with none, one found close to the end.
+fn sheets_to_search() -> Vec<(&'static str, Sheet)> {
+    let mut all = proper_cases();
+    all.push(("case C, bounds 3 and 3", case_c(3, 3)));
+    all.push(("three clients, bounds 3 and 2", three_clients(3, 2)));
+    all.push(("relay, bounds 3 and 3", relay(3, 3)));
+    all.push(("opening, bound 3", opening(3)));
+    all
+}
+
+/// What a call gives, and microseconds per call. A long one is made only once.
+fn repeat<T>(mut call: impl FnMut() -> T) -> (T, f64) {
+    let start = Instant::now();
+    let mut calls = 0;
+    loop {
+        let given = black_box(call());
+        calls += 1;
+        let elapsed = start.elapsed();
+        if elapsed >= SPAN {
+            return (given, elapsed.as_secs_f64() * 1e6 / f64::from(calls));
+        }
+    }
+}
+
+fn measure_find(name: &str, sheet: Sheet) {
+    let page = Page::new(sheet);
+    let mut book = [0; LONGEST_BOOK];
+    let mut annotation = [0; VERTICES];
+    let find = || find_ffi::find(&page.bytes, &mut book, &mut annotation);
+    let (answer, library) = repeat(find);
+    let (found, enumeration) = repeat(|| fast::first(&page));
+    match found {
+        Some(found) => {
+            assert_eq!(answer, 0);
+            assert!(book.starts_with(&found.book), "{name}");
+            assert!(annotation.starts_with(&found.annotation), "{name}");
+        }
+        None => assert_eq!(answer, 256),
+    }
+    println!(
+        "{:<38} {:>8} {:>6} {:>14.1} {:>14.1} {:>8.5}",
+        name,
+        count(&page.sheet),
+        answer,
+        library,
+        enumeration,
+        library / enumeration
+    );
+}
+
 fn main() {
     println!(
         "{:<38} {:>8} {:>6} {:>14} {:>14} {:>8}",
@@ -144,5 +204,12 @@ fn main() {
     );
     for named in random_runs().iter().chain(&clock_runs()) {
         measure(named);
+    }
+    println!(
+        "\n{:<38} {:>8} {:>6} {:>14} {:>14} {:>8}",
+        "find", "choices", "answer", "library us", "enumeration us", "ratio"
+    );
+    for (name, sheet) in sheets_to_search() {
+        measure_find(name, sheet);
     }
 }

@@ -1,0 +1,82 @@
+//! Sheets with ten million choices and more.
+
+use crate::bench::{edge, process};
+use crate::sheet::Sheet;
+
+/// Three clients at two controllers. The environment asks by variables 0 to 2,
+/// and 3 to 5 grant; the first controller has two of the grants. It takes turns
+/// of three steps by both or, if the other grants every second step, of four by
+/// the first: there are none with bounds 3 and 2, but with one more in either.
+pub fn three_clients(first: u8, second: u8) -> Sheet {
+    let mut edges = vec![edge(0, 0, 0, 0), edge(4, 4, 0, 0)];
+    for client in 0..3 {
+        let (asks, grants) = (1 << client, 8 << client);
+        edges.push(edge(0, client + 1, asks, 0));
+        edges.push(edge(client + 1, client + 1, 0, grants));
+    }
+    for both in [0x18, 0x28, 0x30] {
+        edges.push(edge(0, 4, both, 0));
+    }
+    Sheet {
+        variables: 6,
+        environment: 3,
+        processes: vec![process(0x01, 0x18, first), process(0x06, 0x20, second)],
+        states: 5,
+        rejecting: 0x1E,
+        edges,
+        ..Sheet::default()
+    }
+}
+
+/// What the environment says by variable 0 has to be said by variable 2 two
+/// steps later. The first controller hears it, and the second one hears the
+/// first by variable 1. Three states in each are not enough, but four in either.
+pub fn relay(first: u8, second: u8) -> Sheet {
+    Sheet {
+        variables: 3,
+        environment: 1,
+        processes: vec![process(0x01, 0x02, first), process(0x02, 0x04, second)],
+        states: 6,
+        rejecting: 0x20,
+        edges: vec![
+            edge(0, 0, 0, 0),
+            edge(0, 1, 0x01, 0),
+            edge(1, 2, 0, 0),
+            edge(2, 5, 0, 0x04),
+            edge(0, 3, 0, 0x01),
+            edge(3, 4, 0, 0),
+            edge(4, 5, 0x04, 0),
+            edge(5, 5, 0, 0),
+        ],
+        ..Sheet::default()
+    }
+}
+
+/// Case A's controller with one state more, which has to open with both grants
+/// and then to have exactly one at any time: no choice keeps the sheet whose
+/// first entry is not the greatest.
+pub fn opening(bound: u8) -> Sheet {
+    let edges = vec![
+        edge(4, 3, 0, 0x04),
+        edge(4, 3, 0, 0x08),
+        edge(4, 0, 0, 0),
+        edge(0, 0, 0, 0),
+        edge(0, 3, 0x0C, 0),
+        edge(0, 3, 0, 0x0C),
+        edge(0, 1, 0x01, 0),
+        edge(0, 2, 0x02, 0),
+        edge(1, 1, 0, 0x04),
+        edge(2, 2, 0, 0x08),
+        edge(3, 3, 0, 0),
+    ];
+    Sheet {
+        variables: 4,
+        environment: 2,
+        processes: vec![process(0x03, 0x0C, bound)],
+        states: 5,
+        initial: 4,
+        rejecting: 0x0E,
+        edges,
+        ..Sheet::default()
+    }
+}
