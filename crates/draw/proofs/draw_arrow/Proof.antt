@@ -1,0 +1,60 @@
+-- `draw::draw_arrow` is safe and ends: the places that are left fall. Assumes nothing.
+use Prim.Native.Nat.{_-_}
+use native.Mathlib.Omega.{arith}
+use lib.ListN.{length}
+use borrow.Author.Needs.{needs}
+use Rattle.draw.proofs.draw_arrow.Statement.{statement}
+use Rattle.draw.proofs.draw_arrow.Tie as tie
+
+abbrev Inv-loop : tie.InvT-loop
+Inv-loop x y next is-first₀ place₀ is-first place = Unit {0}
+
+abbrev μ-loop : tie.MeasureT-loop
+μ-loop x y next is-first₀ place₀ is-first place = length next - place
+
+loop-holds : tie.Need-loop-holds Inv-loop μ-loop
+loop-holds c = search needs
+
+shared-slice-read-if1 : tie.Need-shared-slice-read-if1 Inv-loop μ-loop
+shared-slice-read-if1 c = search needs
+
+cast-if1 : tie.Need-cast-if1 Inv-loop μ-loop
+cast-if1 c = omega (arith, c .shared-slice-known2 .given (c .before .before .loop .place))
+
+print-place-requires : tie.Need-print-place-requires Inv-loop μ-loop
+print-place-requires c κs = search needs
+
+add-place : tie.Need-add-place Inv-loop μ-loop
+add-place c = search needs
+
+loop-less : tie.Need-loop-less Inv-loop μ-loop
+loop-less c = search needs
+
+loop-again : tie.Need-loop-again Inv-loop μ-loop
+loop-again c = search needs
+
+close-arrow-requires : tie.Need-close-arrow-requires Inv-loop μ-loop
+close-arrow-requires c κs = search needs
+
+returns : tie.Need-returns Inv-loop μ-loop
+returns c = search needs
+
+returns-2 : tie.Need-returns-2 Inv-loop μ-loop
+returns-2 c = search needs
+
+pub draw-arrow-spec : {M : Type 1} → statement M
+draw-arrow-spec =
+    tie.close
+    (tie.spec
+    Inv-loop
+    μ-loop
+    loop-holds
+    shared-slice-read-if1
+    cast-if1
+    print-place-requires
+    add-place
+    loop-less
+    loop-again
+    close-arrow-requires
+    returns
+    returns-2)

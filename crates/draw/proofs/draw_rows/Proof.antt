@@ -1,0 +1,113 @@
+-- `draw::draw_rows` is safe and ends: each row lies within the tables, and the states that are left fall. Assumes nothing.
+use mathlib.Core.List.{List}
+use mathlib.Core.Path.{_≡_}
+use Prim.Native.Nat.{ℕ, _+_, _-_, _<_, _≤_}
+use native.Mathlib.Omega.{arith}
+use lib.ListN.{length, getD, length-take, length-drop}
+use borrow.Author.Needs.{needs}
+use Rattle.model.specs.Compose.{rowAt}
+use Rattle.machine.specs.declared.Architecture.{Architecture}
+use Rattle.machine.specs.Struct.{Sized, processIn, firstIn, entriesOf}
+use Rattle.machine.proofs.Structs.{row-is, row-pos}
+use Rattle.report.proofs.Rows.{row-within}
+use Rattle.draw.proofs.draw_rows.Statement.{statement}
+use Rattle.draw.proofs.draw_rows.Tie as tie
+
+-- what the loop asks of the rows of process i
+record Rows (a : Architecture) (i : ℕ) (tables : List ℕ) (row bound : ℕ) : Type 0 where
+  sized : Sized a
+  counts : i < a .processes
+  all : bound ≡ getD (a .bounds) i 0
+  few : bound ≤ 4
+  some : 0 < row
+  within : (x : ℕ) → x < bound → rowAt (processIn a i) (entriesOf (firstIn a i)) x + row ≤ length tables
+
+abbrev Inv-loop : tie.InvT-loop
+Inv-loop a i tables row bound x₀ x = Rows a i tables row bound
+
+abbrev μ-loop : tie.MeasureT-loop
+μ-loop a i tables row bound x₀ x = bound - x
+
+inputs-of-requires : tie.Need-inputs-of-requires Inv-loop μ-loop
+inputs-of-requires c κs = search needs
+
+row-length-requires : tie.Need-row-length-requires Inv-loop μ-loop
+row-length-requires c κs = search needs
+
+bound-of-requires : tie.Need-bound-of-requires Inv-loop μ-loop
+bound-of-requires c κs = search needs
+
+loop-holds : tie.Need-loop-holds Inv-loop μ-loop
+loop-holds c =
+    let s = c .before .before .before .before in
+    let a = s .args .a in
+    let i = s .args .i in
+    let e = row-is (a .inputs) (a .outputs) (a .bounds) i _ _ (c .before .before .inputs-of .ensures) (c .before .row-length .ensures) in
+    let counts = s .pre .1 .0 in
+    record {
+      sized = s .pre .0;
+      counts = counts;
+      all = c .bound-of .ensures;
+      few = omega (arith, c .bound-of .ensures, s .pre .0 .few-states i counts);
+      some = omega (arith, e, row-pos (processIn a i));
+      within = λ x h. omega (arith, e, row-within a i x counts (omega (arith, c .bound-of .ensures)), s .pre .1 .1);
+    }
+
+cast-t11 : tie.Need-cast-t11 Inv-loop μ-loop
+cast-t11 c = omega (arith, c .before .loop .inv .few)
+
+row-at-requires : tie.Need-row-at-requires Inv-loop μ-loop
+row-at-requires c κs = let r = c .before .loop .inv in (r .sized, (r .counts, omega (arith, r .all)))
+
+-- the row lies within the tables
+inside : (c : tie.After-row-at Inv-loop μ-loop) → c .row-at .result + c .before .before .before .before .row-length .result ≤ length (c .before .before .before .before .before .before .before .args .tables .now)
+inside c = omega (arith, c .row-at .ensures, c .before .before .loop .inv .within (c .before .before .loop .x) (c .before .loop-test .taken))
+
+add-end : tie.Need-add-end Inv-loop μ-loop
+add-end c = omega (arith, inside c)
+
+sub-draw-row : tie.Need-sub-draw-row Inv-loop μ-loop
+sub-draw-row c = search needs
+
+part-draw-row-start : tie.Need-part-draw-row-start Inv-loop μ-loop
+part-draw-row-start c = search needs
+
+part-draw-row-end : tie.Need-part-draw-row-end Inv-loop μ-loop
+part-draw-row-end c = inside c
+
+draw-row-requires : tie.Need-draw-row-requires Inv-loop μ-loop
+draw-row-requires c κs = simp (length-take, length-drop) (omega (arith, inside (c .before), c .before .before .before .loop .inv .some))
+
+add-x : tie.Need-add-x Inv-loop μ-loop
+add-x c = search needs
+
+loop-less : tie.Need-loop-less Inv-loop μ-loop
+loop-less c = search needs
+
+loop-again : tie.Need-loop-again Inv-loop μ-loop
+loop-again c = c .before .before .before .before .loop .inv
+
+returns : tie.Need-returns Inv-loop μ-loop
+returns c = search needs
+
+pub draw-rows-spec : {M : Type 1} → statement M
+draw-rows-spec =
+    tie.close
+    (tie.spec
+    Inv-loop
+    μ-loop
+    inputs-of-requires
+    row-length-requires
+    bound-of-requires
+    loop-holds
+    cast-t11
+    row-at-requires
+    add-end
+    sub-draw-row
+    part-draw-row-start
+    part-draw-row-end
+    draw-row-requires
+    add-x
+    loop-less
+    loop-again
+    returns)

@@ -1,0 +1,41 @@
+-- `draw::draw_sheet` is safe: a sheet that is read without a refusal is in order. Assumes nothing.
+use borrow.Author.Needs.{needs}
+use Rattle.model.proofs.Sheet.{sheet-good}
+use Rattle.sheet.proofs.Sheets.{read-proper}
+use Rattle.draw.proofs.draw_sheet.Statement.{statement}
+use Rattle.draw.proofs.draw_sheet.Tie as tie
+
+read-requires : tie.Need-read-requires
+read-requires c κs = search needs
+
+enum-known-answer : tie.Need-enum-known-answer
+enum-known-answer c = search needs
+
+print-refused-requires : tie.Need-print-refused-requires
+print-refused-requires c κs = search needs
+
+enum-told : tie.Need-enum-told
+enum-told c = search needs
+
+draw-proper-requires : tie.Need-draw-proper-requires
+draw-proper-requires c κs =
+    let r = c .before .before .before .read in
+    (sheet-good _ _ (read-proper _ _ _ (r .ensures .0) (c .before .enum-told .given .1)), r .ensures .1)
+
+returns : tie.Need-returns
+returns c = search needs
+
+returns-2 : tie.Need-returns-2
+returns-2 c = search needs
+
+pub draw-sheet-spec : {M : Type 1} → statement M
+draw-sheet-spec =
+    tie.close
+    (tie.spec
+    read-requires
+    enum-known-answer
+    print-refused-requires
+    enum-told
+    draw-proper-requires
+    returns
+    returns-2)
