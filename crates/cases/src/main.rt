@@ -1,0 +1,137 @@
+// Runs every bench case through the public calls, and prints what each call answers and writes.
+mod calls;
+mod print;
+mod sheets;
+
+use calls::annotate;
+use calls::check;
+use calls::find;
+use calls::judge;
+use calls::part;
+use calls::reread;
+use sheet::CASE_A;
+use sheets::BOOK_A;
+use sheets::BOOK_D;
+use sheets::BOOK_E;
+use sheets::BOOK_J;
+use sheets::BOUND;
+use sheets::CASE_E;
+use sheets::CASE_F;
+use sheets::CASE_H;
+use sheets::CASE_J;
+use sheets::CASE_J_THIRD;
+use sheets::OFF;
+use sheets::REJECTING;
+use sheets::bounded;
+
+// The arbiter: found, and its book annotated, read, written again and parted. There is no process 1.
+fn case_a() {
+    let sheet = CASE_A;
+    let book = BOOK_A;
+    check(b"A", &sheet);
+    find(b"A", &sheet, 20, 32);
+    annotate(b"A", &sheet, &book, 32);
+    reread(b"A", &sheet, &book);
+    part(b"A", &sheet, &book, 0);
+    part(b"A", &sheet, &book, 1);
+}
+
+// A with one state, which cannot grant to each in turn.
+fn case_b() {
+    let mut sheet = CASE_A;
+    sheet[BOUND] = 1;
+    find(b"B", &sheet, 11, 16);
+}
+
+// Two processes, of which one has no second state.
+fn case_c() {
+    find(b"C 1,1", &bounded(1, 1), 16, 16);
+    find(b"C 2,1", &bounded(2, 1), 23, 32);
+    find(b"C 1,2", &bounded(1, 2), 23, 32);
+}
+
+// Two states each. In the first tables process 1 grants in state 0; in the alternating ones process 0 does.
+fn case_d() {
+    let sheet = bounded(2, 2);
+    let book = BOOK_D;
+    find(b"D", &sheet, 30, 64);
+    annotate(b"D alternating", &sheet, &book, 64);
+    part(b"D alternating", &sheet, &book, 0);
+    part(b"D alternating", &sheet, &book, 1);
+}
+
+// No variables: one row, and nothing to keep.
+fn case_e() {
+    find(b"E", &CASE_E, 8, 1);
+}
+
+// A rejecting loop that no table avoids, with the bounds 1 and 4.
+fn case_f() {
+    let mut sheet = CASE_F;
+    find(b"F 1", &sheet, 8, 1);
+    annotate(b"F 1", &sheet, &BOOK_E, 1);
+    sheet[BOUND] = 4;
+    find(b"F 4", &sheet, 26, 4);
+}
+
+// E with a rejecting state that no step enters.
+fn case_g() {
+    let mut sheet = CASE_E;
+    sheet[REJECTING] = 0x01;
+    find(b"G", &sheet, 8, 1);
+}
+
+// Numbers rise where the state entered is rejecting, and not where the state left is.
+fn case_h() {
+    let mut sheet = CASE_H;
+    let book = BOOK_E;
+    judge(b"H rejecting 0 numbers 0 0", &sheet, &book, &[0, 0]);
+    sheet[REJECTING] = 0x02;
+    judge(b"H rejecting 1 numbers 0 0", &sheet, &book, &[0, 0]);
+    judge(b"H rejecting 1 numbers 0 1", &sheet, &book, &[0, 1]);
+}
+
+// Too few bytes, and one too many.
+fn case_i() {
+    check(b"I empty", &[]);
+    check(b"I 41", &[0x41]);
+    let mut longer = [0u8; 61];
+    bytes::copy(&CASE_A, &mut longer);
+    check(b"I A and one more", &longer);
+}
+
+// T is 256: so many numbers are enough for the one automaton state, and one fewer is not. A third process makes T too large.
+fn case_j() {
+    let sheet = CASE_J;
+    let book = BOOK_J;
+    check(b"J 4,4", &sheet);
+    judge(b"J 4,4 numbers 255", &sheet, &book, &[0; 255]);
+    judge(b"J 4,4 numbers 256", &sheet, &book, &[0; 256]);
+    check(b"J 4,4,2", &CASE_J_THIRD);
+}
+
+// A with one field outside the rules.
+fn case_k() {
+    let mut sheet = CASE_A;
+    sheet[BOUND] = 0;
+    check(b"K bound 0", &sheet);
+    sheet[BOUND] = 5;
+    check(b"K bound 5", &sheet);
+    sheet[BOUND] = 2;
+    sheet[OFF] = 0x01;
+    check(b"K on 01 off 01", &sheet);
+}
+
+fn main() {
+    case_a();
+    case_b();
+    case_c();
+    case_d();
+    case_e();
+    case_f();
+    case_g();
+    case_h();
+    case_i();
+    case_j();
+    case_k();
+}

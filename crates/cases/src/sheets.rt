@@ -1,0 +1,68 @@
+// The sheets of the bench cases, and books for some. Case A's sheet is the library's own.
+ghost use mathlib.Core.Path.{_≡_};
+ghost use lib.ListN.{length};
+
+// ---- where the cases differ: places in a sheet
+// The bound of process 0, in every sheet here.
+pub const BOUND: usize = 9;
+
+// The bound of process 1, where there is one.
+const SECOND_BOUND: usize = 14;
+
+// The rejecting mask, where there is one process.
+pub const REJECTING: usize = 14;
+
+// The off mask of A's edge from 0 to 1, whose on mask is 01.
+pub const OFF: usize = 33;
+
+// ---- the sheets and books
+// A's book.
+pub const BOOK_A: [u8; 20] = *b"\
+    TB\x00\x00\x04\x01\x01\x01\x01TB\x00\x01\x08\x00\x00\x00\x00EN";
+
+// A's automaton over two processes. Their bounds are set by `bounded`.
+const CASE_C: [u8; 65] = *b"\
+    AR\x04\x02\x00PR\x01\x04\x00PR\x02\x08\x00AU\x04\x00\x0E\x00\
+    ED\x00\x00\x00\x00ED\x00\x03\x0C\x00ED\x00\x01\x01\x00\
+    ED\x00\x02\x02\x00ED\x01\x01\x00\x04ED\x02\x02\x00\x08\
+    ED\x03\x03\x00\x00EN";
+
+// C, or D, with these bounds.
+pub fn bounded(first: u8, second: u8) -> [u8; 65]
+    ensures { λ r. ⌜ 65 ≡ length r ⌝ }
+{
+    let mut sheet = CASE_C;
+    sheet[BOUND] = first;
+    sheet[SECOND_BOUND] = second;
+    sheet
+}
+
+// Tables for D that alternate: process 0 grants in state 0, process 1 in state 1.
+pub const BOOK_D: [u8; 30] = *b"\
+    TB\x00\x00\x04\x01\x01TB\x00\x01\x00\x00\x00\
+    TB\x01\x00\x00\x01\x01TB\x01\x01\x08\x00\x00EN";
+
+// No variables, bound 1, one automaton state, no edges.
+pub const CASE_E: [u8; 18] = *b"AR\x00\x00\x00PR\x00\x00\x01AU\x01\x00\x00\x00EN";
+
+// The only book of E, F and H: bound 1 and no outputs leave no choice.
+pub const BOOK_E: [u8; 8] = *b"TB\x00\x00\x00\x00EN";
+
+// E with state 0 rejecting, and an edge from it to itself.
+pub const CASE_F: [u8; 24] = *b"AR\x00\x00\x00PR\x00\x00\x01AU\x01\x00\x01\x00ED\x00\x00\x00\x00EN";
+
+// E with states 0 and 1, of which 0 is rejecting, and an edge from 0 to 1.
+pub const CASE_H: [u8; 24] = *b"AR\x00\x00\x00PR\x00\x00\x01AU\x02\x00\x01\x00ED\x00\x01\x00\x00EN";
+
+// Four environment variables, bounds 4 and 4.
+pub const CASE_J: [u8; 23] = *b"AR\x04\x04\x00PR\x00\x00\x04PR\x00\x00\x04AU\x01\x00\x00\x00EN";
+
+// J with a third process, of bound 2.
+pub const CASE_J_THIRD: [u8; 28] = *b"\
+    AR\x04\x04\x00PR\x00\x00\x04PR\x00\x00\x04PR\x00\x00\x02\
+    AU\x01\x00\x00\x00EN";
+
+// A book of J: every row is zeros.
+pub const BOOK_J: [u8; 50] = *b"\
+    TB\x00\x00\x00\x00TB\x00\x01\x00\x00TB\x00\x02\x00\x00TB\x00\x03\x00\x00\
+    TB\x01\x00\x00\x00TB\x01\x01\x00\x00TB\x01\x02\x00\x00TB\x01\x03\x00\x00EN";
