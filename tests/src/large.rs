@@ -80,3 +80,37 @@ pub fn opening(bound: u8) -> Sheet {
         ..Sheet::default()
     }
 }
+
+/// Two controllers that both count 0, 1, 2, 3 and round again, whatever the
+/// environment says. Each of their entries is read, so that the search settles
+/// them all, one within the other: 24 without an environment, 136 with four
+/// variables.
+pub fn counters(environment: u8) -> Sheet {
+    let mut edges = vec![edge(4, 4, 0, 0)];
+    for count in 0..4 {
+        edges.push(edge(count, (count + 1) % 4, 0, 0));
+        for bit in 0..2 {
+            let both = [1 << environment << bit, 4 << environment << bit];
+            for variable in both {
+                if count >> bit & 1 == 1 {
+                    edges.push(edge(count, 4, 0, variable));
+                } else {
+                    edges.push(edge(count, 4, variable, 0));
+                }
+            }
+        }
+    }
+    let inputs = (1 << environment) - 1;
+    Sheet {
+        variables: environment + 4,
+        environment,
+        processes: vec![
+            process(inputs, 3 << environment, 4),
+            process(inputs, 12 << environment, 4),
+        ],
+        states: 5,
+        rejecting: 0x10,
+        edges,
+        ..Sheet::default()
+    }
+}

@@ -1,0 +1,39 @@
+/* Finds the tables of case A: the arbiter of two clients, with two states. */
+#include <stdio.h>
+
+#include "soclethyme.h"
+
+static const uint8_t sheet[60] = {
+    0x41, 0x52, 0x04, 0x02, 0x00, 0x50, 0x52, 0x03, 0x0C, 0x02,
+    0x41, 0x55, 0x04, 0x00, 0x0E, 0x00,
+    0x45, 0x44, 0x00, 0x00, 0x00, 0x00, 0x45, 0x44, 0x00, 0x03, 0x0C, 0x00,
+    0x45, 0x44, 0x00, 0x01, 0x01, 0x00, 0x45, 0x44, 0x00, 0x02, 0x02, 0x00,
+    0x45, 0x44, 0x01, 0x01, 0x00, 0x04, 0x45, 0x44, 0x02, 0x02, 0x00, 0x08,
+    0x45, 0x44, 0x03, 0x03, 0x00, 0x00, 0x45, 0x4E,
+};
+
+int main(void) {
+    /* The largest that any sheet needs: 338 bytes and 4096 numbers. */
+    static uint8_t book[338];
+    static uint16_t annotation[4096];
+    uint32_t answer = soclethyme_find(sheet, sizeof sheet, book, sizeof book,
+                                      annotation, 4096);
+    if (answer == 256) {
+        puts("none");
+        return 0;
+    }
+    if (answer != 0) {
+        printf("refused %u\n", (unsigned)answer);
+        return 0;
+    }
+    /* One process with two states and four next states: records of 9 bytes. */
+    for (int x = 0; x < 2; x++) {
+        const uint8_t *row = book + 9 * x;
+        printf("state %u: outputs %02X, next %u %u %u %u\n", row[3], row[4],
+               row[5], row[6], row[7], row[8]);
+    }
+    /* The book and its annotation, as anybody may check them. */
+    answer = soclethyme_judge(sheet, sizeof sheet, book, 20, annotation, 4096);
+    puts(answer == 0 ? "judged: yes" : "judged: no");
+    return 0;
+}
