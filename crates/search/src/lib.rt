@@ -224,7 +224,6 @@ pub fn first(
     requires { ⌜ Kinds (sheetOf sheet) (now kinds) ⌝ }
     requires { ⌜ n ≡ length (entriesOf (sheetOf sheet)) ⌝ }
     requires { ⌜ length (now witness) ≡ 272 ⌝ }
-    requires { ⌜ (length (now values) ≡ 272) × (length (now unset) ≡ 272) ⌝ }
     requires { ⌜ Work (now numbers) (now stack) (now waiting) (now targets) (now steps) ⌝ }
     ensures { λ r. ⌜ Leads (sheetOf sheet) (now (witness .exit)) r ⌝ }
 {

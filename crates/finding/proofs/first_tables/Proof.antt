@@ -42,7 +42,7 @@ first-requires : tie.Need-first-requires
 first-requires c κs =
     let p = c .before .before .before .before .before .before .before .before .before .before .before .before .before .before .before .before .before .before .before .pre in
     let filled = c .before .before .before .before .before .before .before .before .before .before .before .before .before .before .before .before .before in
-    (p .0, ((p .1 .1 .0, c .before .before .before .before .before .before .before .before .before .before .before .before .prepare .ensures), (kinds-are filled, (many filled, (p .1 .1 .1, ((refl {a = 272}, refl {a = 272}), record { numbers-long = refl {a = 4096}; stack-long = refl {a = 4096}; waiting-long = refl {a = 4096}; targets-long = refl {a = 4096}; steps-long = refl {a = 4096} }))))))
+    (p .0, ((p .1 .1 .0, c .before .before .before .before .before .before .before .before .before .before .before .before .prepare .ensures), (kinds-are filled, (many filled, (p .1 .1 .1, record { numbers-long = refl {a = 4096}; stack-long = refl {a = 4096}; waiting-long = refl {a = 4096}; targets-long = refl {a = 4096}; steps-long = refl {a = 4096} })))))
 
 returns : tie.Need-returns
 returns c = search needs

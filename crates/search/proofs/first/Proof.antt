@@ -70,7 +70,7 @@ search-requires c κs =
     let g = c .before .before .before .before .before .before .before in
     let b = started g in
     let r = begun-ready (begun g) (b .pre .0) (kinds-are b .few) (λ k h. absurd (omega arith)) in
-    (b .pre .0, (b .pre .1 .0, (kinds-are b, (r, (omega (arith, opens-few (s b) _ _ r, count b), b .pre .1 .1 .1 .1 .1 .1)))))
+    (b .pre .0, (b .pre .1 .0, (kinds-are b, (r, (omega (arith, opens-few (s b) _ _ r, count b), b .pre .1 .1 .1 .1 .1)))))
 
 enum-told : tie.Need-enum-told Inv-loop μ-loop
 enum-told c = search needs
