@@ -49,6 +49,26 @@ put-four l at n v₀ v₁ v₂ v₃ v h q =
 pub put-turn : {l m xs : List ℕ} {at end : ℕ} (rest : List ℕ) → Puts l at xs end m → take end m ++ rest ≡ take at l ++ (xs ++ rest)
 put-turn {l} {xs = xs} {at} rest p = rw (p .is) (append-assoc (take at l) xs rest)
 
+-- ---- words for one process after the other: before that of number i, i of n are done, with at most w words each, and `due i` are the words still to come
+pub record Filling (w n : ℕ) (due : ℕ → List ℕ) (l₀ l : List ℕ) (at i : ℕ) : Type 0 where
+  pub inside : i ≤ n
+  pub few : at ≤ w * i
+  pub same-length : length l ≡ length l₀
+  pub rest : take at l ++ due i ≡ due 0
+
+module _ {w n : ℕ} {due : ℕ → List ℕ} {l₀ : List ℕ} where
+  pub filling-none : Filling w n due l₀ l₀ 0 0
+  filling-none = record { inside = omega arith; few = omega arith; same-length = refl; rest = refl }
+
+  -- the words of one more
+  pub filling-more : {l m xs : List ℕ} {at end i : ℕ} → Filling w n due l₀ l at i → i < n → Puts l at xs end m → end ≤ at + w → length m ≡ length l → due i ≡ xs ++ due (i + 1) → Filling w n due l₀ m end (i + 1)
+  filling-more {l} {at = at} {i = i} F h p few same turn = record {
+    inside = omega arith;
+    few = omega (arith, F .few);
+    same-length = same ∙ F .same-length;
+    rest = put-turn (due (i + 1)) p ∙ ap (λ (xs : List ℕ). take at l ++ xs) (sym turn) ∙ F .rest;
+  }
+
 -- ---- what words say
 -- every byte that is due is a byte
 unfoldable pub Bytes : List Place → Type 0

@@ -1,7 +1,7 @@
 -- Laws of partial choices, of the values that an entry may have, and of witnesses.
 use mathlib.Core.Path.{_≡_, refl, sym, ap, _∙_}
 use mathlib.Core.Bool.{true}
-use mathlib.Core.List.{List, [], _∷_, List·Memᴰ·head, List·Memᴰ·tail}
+use mathlib.Core.List.{List, [], _∷_}
 use mathlib.Core.Option.{none, some}
 use Prim.Native.Nat.{ℕ, zero, suc, _+_, _<_, _≤_}
 use native.Mathlib.Nat.{le-refl}
@@ -16,12 +16,13 @@ use Rattle.model.specs.Computed.{loops, keeps, firstChoice}
 use Rattle.model.proofs.Sheet.{Good}
 use Rattle.model.proofs.Choice.{fits-length}
 use Rattle.model.proofs.Entries.{fits-at, fits-set, before-at, zeros-fit}
-use Rattle.model.proofs.First.{AllSmall, entries-small}
+use Rattle.model.proofs.First.{entries-small}
 use Rattle.model.proofs.FirstIs.{none-is, first-is}
 use Rattle.layout.specs.Codes.{kindOf}
 use Rattle.graph.specs.Filled.{chosen}
 use Rattle.partial.specs.Partial.{Completes}
 use Rattle.partial.specs.Says.{Barren}
+use Rattle.partial.proofs.Whole.{choice-byte}
 use Rattle.search.specs.Search.{Ready, opens, NextValue, Kinds, Witness, Begun, Alike, Lowest, Least}
 use Rattle.search.specs.Says.{Found}
 
@@ -58,12 +59,6 @@ module _ (s : Sheet) (kinds : List ℕ) (K : Kinds s kinds) (k : ℕ) (hk : k < 
   -- and is one still with another such value
   may-set : (tables : List ℕ) (v : ℕ) → IsChoice s (chosen s tables) → may (kindOf (getD kinds k 0)) v ≡ true → IsChoice s (chosen s (set tables k v))
   may-set tables v f m = rw (take-set-lt (length (entries s)) tables k v hk) (fits-set f (kindOf 0) k v hk (rw kind-at at m))
-
--- a choice has bytes
-small-at : {es : List Entry} {c : List ℕ} → Fits es c → AllSmall es → (i : ℕ) → i < length es → getD c i 0 < 256
-small-at done small i h = absurd (omega arith)
-small-at (also {e = e} {v = v} m f) small zero h = small e (List·Memᴰ·head refl) v m
-small-at (also m f) small (suc i) h = small-at f (λ e j. small e (List·Memᴰ·tail j)) i (omega arith)
 
 -- a list with a value for each entry that the entry may have
 fits-places : (es : List Entry) (c : List ℕ) (e₀ : Entry) → length c ≡ length es → ((i : ℕ) → i < length es → may (getD es i e₀) (getD c i 0) ≡ true) → Fits es c
@@ -173,7 +168,7 @@ module _ {s : Sheet} {values unset kinds : List ℕ} {k : ℕ} (O : Opened s val
   pub all-tried : Good s → (v : ℕ) → 256 ≤ v → Trying (kindOf (getD kinds k 0)) (λ u. Barren s (set values k u) (set unset k 0)) v → Barren s values unset
   all-tried good v h T c C =
       let u = getD c k 0 in
-      T .tried u (omega (arith, small-at (C .is-choice) (entries-small s good) k (O .inside))) (may-at s kinds (O .kinds-are) k (O .inside) c (C .is-choice)) c (completes-narrower u c refl C)
+      T .tried u (omega (arith, choice-byte (entries-small s good) (C .is-choice) k)) (may-at s kinds (O .kinds-are) k (O .inside) c (C .is-choice)) c (completes-narrower u c refl C)
 
 -- ---- what is begun
 pub begun-none : (tables : List ℕ) (i : ℕ) → length tables ≡ 272 → i ≤ 272 → Begun i tables i tables (replicate 272 0)

@@ -24,12 +24,12 @@ pub record Chose (s : Sheet) (book tables : List ℕ) : Type 0 where
   pub is-choice : IsChoice s (chosen s tables)
   pub is-read : readBook s book ≡ proper (chosen s tables)
 
-module _ (s : Sheet) (a : Architecture) (is : ArchitectureOf s a) (book : List ℕ) (r : TablesRead) (e : afterRead r ≡ gave (readBook (sheetWith a) book)) where
+module _ {s : Sheet} {a : Architecture} (is : ArchitectureOf s a) (book : List ℕ) (r : TablesRead) (e : afterRead r ≡ gave (readBook (sheetWith a) book)) where
   after : afterRead r ≡ gave (readBook s book)
   after = e ∙ ap gave (same-book s a is book)
 
-  pub was-refused : (q : Refusal) → r .answer ≡ Reply.Refused q → readBook s book ≡ refused q
-  was-refused q h = gave-refused (readBook s book) q (sym (ap (λ (x : AfterRead). x .answer) after) ∙ h)
+  pub was-refused : {q : Refusal} → r .answer ≡ Reply.Refused q → readBook s book ≡ refused q
+  was-refused {q} h = gave-refused (readBook s book) q (sym (ap (λ (x : AfterRead). x .answer) after) ∙ h)
 
   pub was-read : r .answer ≡ Reply.Done → Chose s book (r .tables)
   unfolding gave

@@ -1,32 +1,36 @@
 -- `layout::fill_kinds` meets its contract. The invariant: what was put, with the rows of the processes still due behind it, is all. Assumes nothing.
-use mathlib.Core.Path.{_≡_, refl, sym, ap, _∙_}
-use mathlib.Core.List.{List, _++_, map, append-nil}
-use Prim.Native.Nat.{ℕ, _+_, _-_, _*_, _≤_}
+use mathlib.Core.Path.{_≡_, sym, ap, _∙_}
+use mathlib.Core.List.{List, map, append-nil}
+use Prim.Native.Nat.{ℕ, _+_, _-_, _≤_}
 use native.Mathlib.Omega.{arith}
-use lib.ListN.{length, take, drop}
+use lib.ListN.{take, drop}
 use Rattle.model.specs.Sheet.{Process}
 use Rattle.model.specs.Choice.{rows, entries}
+use Rattle.machine.specs.declared.Architecture.{Architecture}
 use Rattle.machine.specs.Struct.{processesIn, processIn, sheetWith}
 use Rattle.machine.proofs.Structs.{process-next, processes-end}
 use Rattle.layout.specs.Codes.{kindOf, kindCode}
-use Rattle.layout.proofs.Words.{put-turn, kinds-turn, kinds-back, put-length}
+use Rattle.layout.proofs.Words.{Filling, filling-none, filling-more, kinds-turn, kinds-back, put-length}
 use Rattle.layout.proofs.fill_kinds.Statement.{statement}
 use Rattle.layout.proofs.fill_kinds.Tie as tie
 
+abbrev still-due : Architecture → ℕ → List ℕ
+still-due a i = map kindCode (rows (drop i (processesIn a)))
+
 abbrev Inv-loop : tie.InvT-loop
-Inv-loop kinds₀ a n at₀ i₀ kinds at i = (i ≤ n) × ((at ≤ 68 * i) × ((length kinds ≡ length kinds₀) × (take at kinds ++ map kindCode (rows (drop i (processesIn a))) ≡ map kindCode (rows (processesIn a)))))
+Inv-loop kinds₀ a n at₀ i₀ kinds at i = Filling 68 n (still-due a) kinds₀ kinds at i
 
 abbrev μ-loop : tie.MeasureT-loop
 μ-loop kinds₀ a n at₀ i₀ kinds at i = n - i
 
 loop-holds : tie.Need-loop-holds Inv-loop μ-loop
-loop-holds c = (omega arith, (omega arith, (refl, refl)))
+loop-holds c = filling-none
 
 put-rows-requires : tie.Need-put-rows-requires Inv-loop μ-loop
 put-rows-requires c κs =
     let l = c .before .before .loop in
     let p = c .before .before .before .before .pre in
-    (p .0, (c .before .loop-test .taken, omega (arith, l .inv .1 .0, l .inv .1 .1 .0, p .1, c .before .loop-test .taken, p .0 .few-processes)))
+    (p .0, (c .before .loop-test .taken, omega (arith, l .inv .few, l .inv .same-length, p .1, c .before .loop-test .taken, p .0 .few-processes)))
 
 add-i : tie.Need-add-i Inv-loop μ-loop
 add-i c = omega (arith, c .before .before .before .before .loop-test .taken, c .before .before .before .before .before .before .before .pre .0 .few-processes)
@@ -38,18 +42,10 @@ loop-again : tie.Need-loop-again Inv-loop μ-loop
 loop-again c =
     let l = c .before .before .before .before .before .loop in
     let a = c .before .before .before .before .before .before .before .args .a in
-    let ps = processesIn a in (
-      omega (arith, c .before .before .before .before .loop-test .taken),
-      (
-        omega (arith, l .inv .1 .0, c .before .before .put-rows .ensures .0),
-        (
-          c .before .before .put-rows .kept .0 ∙ l .inv .1 .1 .0,
-          put-turn (map kindCode (rows (drop (l .i + 1) ps))) (c .before .before .put-rows .ensures .1)
-              ∙ ap (λ (xs : List ℕ). take (l .at) (l .kinds) ++ xs) (sym (ap (λ (qs : List Process). map kindCode (rows qs)) (process-next (a .inputs) (a .outputs) (a .bounds) (a .processes) (l .i) (c .before .before .before .before .loop-test .taken)) ∙ kinds-turn (processIn a (l .i)) (drop (l .i + 1) ps)))
-              ∙ l .inv .1 .1 .1,
-        ),
-      ),
-    )
+    let h = c .before .before .before .before .loop-test .taken in
+    let put = c .before .before .put-rows in
+    filling-more (l .inv) h (put .ensures .1) (omega (arith, put .ensures .0)) (put .kept .0)
+    (ap (λ (qs : List Process). map kindCode (rows qs)) (process-next (a .inputs) (a .outputs) (a .bounds) (a .processes) (l .i) h) ∙ kinds-turn (processIn a (l .i)) (drop (l .i + 1) (processesIn a)))
 
 -- all rows were put
 all : (c : tie.After-loop Inv-loop μ-loop) → take (c .before .loop .at) (c .before .loop .kinds) ≡ map kindCode (rows (processesIn (c .before .before .before .args .a)))
@@ -57,18 +53,18 @@ unfolding rows
 all c =
     let l = c .before .loop in
     let a = c .before .before .before .args .a in
-    let e : l .i ≡ a .processes = omega (arith, c .loop-test .left, l .inv .0) in
-    sym (append-nil (take (l .at) (l .kinds))) ∙ rw (processes-end (a .inputs) (a .outputs) (a .bounds) (a .processes)) at (rw e at (l .inv .1 .1 .1))
+    let e : l .i ≡ a .processes = omega (arith, c .loop-test .left, l .inv .inside) in
+    sym (append-nil (take (l .at) (l .kinds))) ∙ rw (processes-end (a .inputs) (a .outputs) (a .bounds) (a .processes)) at (rw e at (l .inv .rest))
 
 same-length : tie.Need-same-length Inv-loop μ-loop
-same-length c = c .before .loop .inv .1 .1 .0
+same-length c = c .before .loop .inv .same-length
 
 returns : tie.Need-returns Inv-loop μ-loop
 unfolding entries sheetWith
 returns c =
     let l = c .before .loop in
-    let few : l .at ≤ 272 = omega (arith, l .inv .1 .0, l .inv .0, c .before .before .before .pre .0 .few-processes) in (
-      (put-length kindCode (rows (processesIn (c .before .before .before .args .a))) (l .kinds) (l .at) (omega (arith, few, c .before .before .before .pre .1, l .inv .1 .1 .0)) (all c), few),
+    let few : l .at ≤ 272 = omega (arith, l .inv .few, l .inv .inside, c .before .before .before .pre .0 .few-processes) in (
+      (put-length kindCode (rows (processesIn (c .before .before .before .args .a))) (l .kinds) (l .at) (omega (arith, few, c .before .before .before .pre .1, l .inv .same-length)) (all c), few),
       ap (map kindOf) (all c) ∙ kinds-back (rows (processesIn (c .before .before .before .args .a))),
     )
 

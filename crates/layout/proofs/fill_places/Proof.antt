@@ -1,18 +1,19 @@
 -- `layout::fill_places` meets its contract. The invariant: what was put, with the records of the processes still due behind it, is all. Assumes nothing.
-use mathlib.Core.Path.{_≡_, refl, sym, ap, _∙_}
+use mathlib.Core.Path.{_≡_, ap, _∙_}
 use mathlib.Core.List.{List, [], _∷_, _++_, map}
-use Prim.Native.Nat.{ℕ, _+_, _-_, _*_, _≤_}
+use Prim.Native.Nat.{ℕ, _+_, _-_, _≤_}
 use native.Mathlib.Nat.{add-assoc}
 use native.Mathlib.Omega.{arith}
 use lib.ListN.{length, length-set, set, take, drop}
 use borrow.Author.Needs.{needs}
 use Rattle.model.specs.Sheet.{Process}
 use Rattle.model.specs.Book.{Place, due, allRecords, form, bookLength}
+use Rattle.machine.specs.declared.Architecture.{Architecture}
 use Rattle.machine.specs.Struct.{processesIn, processIn, sheetWith}
 use Rattle.machine.proofs.Laws.{good}
 use Rattle.machine.proofs.Structs.{process-next, processes-end}
 use Rattle.layout.specs.Codes.{placeOf, placeCode}
-use Rattle.layout.proofs.Words.{put-one, put-more, put-turn, places-turn, places-back, bytes-form, put-length}
+use Rattle.layout.proofs.Words.{put-one, put-more, Filling, filling-none, filling-more, places-turn, places-back, bytes-form, put-length}
 use Rattle.layout.proofs.fill_places.Statement.{statement}
 use Rattle.layout.proofs.fill_places.Tie as tie
 
@@ -20,20 +21,23 @@ use Rattle.layout.proofs.fill_places.Tie as tie
 abbrev end : List Place
 end = due 0x45 ∷ due 0x4E ∷ []
 
+abbrev still-due : Architecture → ℕ → List ℕ
+still-due a i = map placeCode (allRecords i (drop i (processesIn a)) ++ end)
+
 abbrev Inv-loop : tie.InvT-loop
-Inv-loop places₀ a n at₀ i₀ places at i = (i ≤ n) × ((at ≤ 84 * i) × ((length places ≡ length places₀) × (take at places ++ map placeCode (allRecords i (drop i (processesIn a)) ++ end) ≡ map placeCode (allRecords 0 (processesIn a) ++ end))))
+Inv-loop places₀ a n at₀ i₀ places at i = Filling 84 n (still-due a) places₀ places at i
 
 abbrev μ-loop : tie.MeasureT-loop
 μ-loop places₀ a n at₀ i₀ places at i = n - i
 
 loop-holds : tie.Need-loop-holds Inv-loop μ-loop
-loop-holds c = (omega arith, (omega arith, (refl, refl)))
+loop-holds c = filling-none
 
 put-records-requires : tie.Need-put-records-requires Inv-loop μ-loop
 put-records-requires c κs =
     let l = c .before .before .loop in
     let p = c .before .before .before .before .pre in
-    (p .0, (c .before .loop-test .taken, omega (arith, l .inv .1 .0, l .inv .1 .1 .0, p .1, c .before .loop-test .taken, p .0 .few-processes)))
+    (p .0, (c .before .loop-test .taken, omega (arith, l .inv .few, l .inv .same-length, p .1, c .before .loop-test .taken, p .0 .few-processes)))
 
 add-i : tie.Need-add-i Inv-loop μ-loop
 add-i c = omega (arith, c .before .before .before .before .loop-test .taken, c .before .before .before .before .before .before .before .pre .0 .few-processes)
@@ -45,27 +49,18 @@ loop-again : tie.Need-loop-again Inv-loop μ-loop
 loop-again c =
     let l = c .before .before .before .before .before .loop in
     let a = c .before .before .before .before .before .before .before .args .a in
-    let ps = processesIn a in (
-      omega (arith, c .before .before .before .before .loop-test .taken),
-      (
-        omega (arith, l .inv .1 .0, c .before .before .put-records .ensures .0 .1),
-        (
-          c .before .before .put-records .kept .0 ∙ l .inv .1 .1 .0,
-          put-turn (map placeCode (allRecords (l .i + 1) (drop (l .i + 1) ps) ++ end)) (c .before .before .put-records .ensures .1)
-              ∙ ap (λ (xs : List ℕ). take (l .at) (l .places) ++ xs)
-              (sym (ap (λ (qs : List Process). map placeCode (allRecords (l .i) qs ++ end)) (process-next (a .inputs) (a .outputs) (a .bounds) (a .processes) (l .i) (c .before .before .before .before .loop-test .taken)) ∙ places-turn (l .i) (processIn a (l .i)) (drop (l .i + 1) ps) end))
-              ∙ l .inv .1 .1 .1,
-        ),
-      ),
-    )
+    let h = c .before .before .before .before .loop-test .taken in
+    let put = c .before .before .put-records in
+    filling-more (l .inv) h (put .ensures .1) (omega (arith, put .ensures .0 .1)) (put .kept .0)
+    (ap (λ (qs : List Process). map placeCode (allRecords (l .i) qs ++ end)) (process-next (a .inputs) (a .outputs) (a .bounds) (a .processes) (l .i) h) ∙ places-turn (l .i) (processIn a (l .i)) (drop (l .i + 1) (processesIn a)) end)
 
 -- there is room for the end
 room : (c : tie.After-loop Inv-loop μ-loop) → (c .before .loop .at + 2 ≤ 338) × (c .before .loop .at + 2 ≤ length (c .before .loop .places))
 room c =
     let l = c .before .loop in
     let p = c .before .before .before .pre in
-    let few : l .at + 2 ≤ 338 = omega (arith, l .inv .1 .0, l .inv .0, p .0 .few-processes) in
-    (few, omega (arith, few, l .inv .1 .1 .0, p .1))
+    let few : l .at + 2 ≤ 338 = omega (arith, l .inv .few, l .inv .inside, p .0 .few-processes) in
+    (few, omega (arith, few, l .inv .same-length, p .1))
 
 -- all records were put, and the end is still due
 all : (c : tie.After-loop Inv-loop μ-loop) → take (c .before .loop .at) (c .before .loop .places) ++ map placeCode end ≡ map placeCode (allRecords 0 (processesIn (c .before .before .before .args .a)) ++ end)
@@ -73,8 +68,8 @@ unfolding allRecords
 all c =
     let l = c .before .loop in
     let a = c .before .before .before .args .a in
-    let e : l .i ≡ a .processes = omega (arith, c .loop-test .left, l .inv .0) in
-    rw (processes-end (a .inputs) (a .outputs) (a .bounds) (a .processes)) at (rw e at (l .inv .1 .1 .1))
+    let e : l .i ≡ a .processes = omega (arith, c .loop-test .left, l .inv .inside) in
+    rw (processes-end (a .inputs) (a .outputs) (a .bounds) (a .processes)) at (rw e at (l .inv .rest))
 
 array-read-due : tie.Need-array-read-due Inv-loop μ-loop
 array-read-due c = search needs
@@ -117,7 +112,7 @@ whole c =
     rw (add-assoc (l .at) 1 1) at (two .is) ∙ rw (c .before .due .ensures, c .due2 .ensures) (all (c .before .before))
 
 same-length : tie.Need-same-length Inv-loop μ-loop
-same-length c = simp length-set (c .before .before .before .loop .inv .1 .1 .0)
+same-length c = simp length-set (c .before .before .before .loop .inv .same-length)
 
 returns : tie.Need-returns Inv-loop μ-loop
 unfolding bookLength

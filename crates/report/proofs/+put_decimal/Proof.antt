@@ -7,7 +7,7 @@ use lib.ListN.{length, length-append}
 use Rattle.report.specs.Text.{digit, decimal}
 use Rattle.report.proofs.Bytes.{put-more}
 use Rattle.report.proofs.Numbers.{decimal-few, decimal-more}
-use borrow.Fn.Kinds.{In}
+use borrow.Fn.Kinds.{In, Out}
 use borrow.Fn.PlainCycle.{Measures, is, falls, and}
 use Rattle.report.proofs.put_decimal.Reads as put-decimal
 use Rattle.report.proofs.put_decimal.Kinds as put-decimal-kinds
@@ -28,134 +28,58 @@ abbrev put-decimal-below : ℕ → In 1 put-decimal-kinds.ps
 put-decimal-below t =
     and 1 put-decimal-kinds.ps (falls 1 put-decimal-kinds.ps _<_ μ-put-decimal t) put-decimal.Pre
 
-put-decimal-cast-digit : (t : ℕ) → put-decimal-lts.Need-cast-digit (
-  digit-reads.Asked,
-  digit-reads.Learnt,
-  put-reads.Asked,
-  put-reads.Learnt,
-  put-decimal-below t,
-  put-decimal.Post,
-) (put-decimal-at t) put-decimal.Post
-put-decimal-cast-digit t c = omega (arith, c .before .if1 .taken)
+abbrev claims : ℕ → put-decimal-lts.Claims
+claims t = (digit-reads.Asked, digit-reads.Learnt, put-reads.Asked, put-reads.Learnt, put-decimal-below t, put-decimal.Post)
 
-put-decimal-digit-requires : (t : ℕ) → put-decimal-lts.Need-digit-requires (
-  digit-reads.Asked,
-  digit-reads.Learnt,
-  put-reads.Asked,
-  put-reads.Learnt,
-  put-decimal-below t,
-  put-decimal.Post,
-) (put-decimal-at t) put-decimal.Post
-put-decimal-digit-requires t c κs = omega (arith, c .before .if1 .taken)
+module _ (t : ℕ) where
+  -- a need
+  abbrev Of : (put-decimal-lts.Claims → In 1 put-decimal-kinds.ps → Out 1 put-decimal-kinds.ps put-decimal-kinds.r → Type 0) → Type 0
+  Of N = N (claims t) (put-decimal-at t) put-decimal.Post
 
-put-decimal-put-requires : (t : ℕ) → put-decimal-lts.Need-put-requires (
-  digit-reads.Asked,
-  digit-reads.Learnt,
-  put-reads.Asked,
-  put-reads.Learnt,
-  put-decimal-below t,
-  put-decimal.Post,
-) (put-decimal-at t) put-decimal.Post
-put-decimal-put-requires t c κs = let a = c .before .before .before .before in omega (arith, a .pre .1, ap length (decimal-few (a .args .n) (c .before .before .if1 .taken)))
+  put-decimal-cast-digit : Of put-decimal-lts.Need-cast-digit
+  put-decimal-cast-digit c = omega (arith, c .before .if1 .taken)
 
-put-decimal-same-length : (t : ℕ) → put-decimal-lts.Need-same-length (
-  digit-reads.Asked,
-  digit-reads.Learnt,
-  put-reads.Asked,
-  put-reads.Learnt,
-  put-decimal-below t,
-  put-decimal.Post,
-) (put-decimal-at t) put-decimal.Post
-put-decimal-same-length t c = c .before .before .put .kept .0
+  put-decimal-digit-requires : Of put-decimal-lts.Need-digit-requires
+  put-decimal-digit-requires c κs = omega (arith, c .before .if1 .taken)
 
-put-decimal-returns : (t : ℕ) → put-decimal-lts.Need-returns (
-  digit-reads.Asked,
-  digit-reads.Learnt,
-  put-reads.Asked,
-  put-reads.Learnt,
-  put-decimal-below t,
-  put-decimal.Post,
-) (put-decimal-at t) put-decimal.Post
-put-decimal-returns t c = rw (decimal-few _ (c .before .before .before .before .before .if1 .taken), ← c .before .before .before .digit .ensures) (c .before .before .put .ensures)
+  put-decimal-put-requires : Of put-decimal-lts.Need-put-requires
+  put-decimal-put-requires c κs = let a = c .before .before .before .before in omega (arith, a .pre .1, ap length (decimal-few (a .args .n) (c .before .before .if1 .taken)))
 
-put-decimal-put-decimal-requires : (t : ℕ) → put-decimal-lts.Need-put-decimal-requires (
-  digit-reads.Asked,
-  digit-reads.Learnt,
-  put-reads.Asked,
-  put-reads.Learnt,
-  put-decimal-below t,
-  put-decimal.Post,
-) (put-decimal-at t) put-decimal.Post
-put-decimal-put-decimal-requires t c κs =
-    let a = c .before .before .before in
-    let h = c .before .if1 .left in
-    (omega (arith, a .pre .0, h), omega (arith, a .pre .1, ap length (decimal-more (a .args .n) h), length-append (decimal (a .args .n / 10)) (digit (a .args .n % 10) ∷ [])))
+  put-decimal-same-length : Of put-decimal-lts.Need-same-length
+  put-decimal-same-length c = c .before .before .put .kept .0
 
-put-decimal-cast-digit-2 : (t : ℕ) → put-decimal-lts.Need-cast-digit-2 (
-  digit-reads.Asked,
-  digit-reads.Learnt,
-  put-reads.Asked,
-  put-reads.Learnt,
-  put-decimal-below t,
-  put-decimal.Post,
-) (put-decimal-at t) put-decimal.Post
-put-decimal-cast-digit-2 t c = omega arith
+  put-decimal-returns : Of put-decimal-lts.Need-returns
+  put-decimal-returns c = rw (decimal-few _ (c .before .before .before .before .before .if1 .taken), ← c .before .before .before .digit .ensures) (c .before .before .put .ensures)
 
-put-decimal-digit-requires-2 : (t : ℕ) → put-decimal-lts.Need-digit-requires-2 (
-  digit-reads.Asked,
-  digit-reads.Learnt,
-  put-reads.Asked,
-  put-reads.Learnt,
-  put-decimal-below t,
-  put-decimal.Post,
-) (put-decimal-at t) put-decimal.Post
-put-decimal-digit-requires-2 t c κs = omega arith
+  put-decimal-put-decimal-requires : Of put-decimal-lts.Need-put-decimal-requires
+  put-decimal-put-decimal-requires c κs =
+      let a = c .before .before .before in
+      let h = c .before .if1 .left in
+      (omega (arith, a .pre .0, h), omega (arith, a .pre .1, ap length (decimal-more (a .args .n) h), length-append (decimal (a .args .n / 10)) (digit (a .args .n % 10) ∷ [])))
 
-put-decimal-put-requires-2 : (t : ℕ) → put-decimal-lts.Need-put-requires-2 (
-  digit-reads.Asked,
-  digit-reads.Learnt,
-  put-reads.Asked,
-  put-reads.Learnt,
-  put-decimal-below t,
-  put-decimal.Post,
-) (put-decimal-at t) put-decimal.Post
-put-decimal-put-requires-2 t c κs =
-    let a = c .before .before .before .before .before .before .before .before in
-    let h = c .before .before .before .before .before .before .if1 .left in
-    let p = c .before .before .before .before .put-decimal in
-    omega (arith, a .pre .1, ap length (decimal-more (a .args .n) h), length-append (decimal (a .args .n / 10)) (digit (a .args .n % 10) ∷ []), p .ensures .ends, p .kept .0)
+  put-decimal-cast-digit-2 : Of put-decimal-lts.Need-cast-digit-2
+  put-decimal-cast-digit-2 c = omega arith
 
-put-decimal-same-length-2 : (t : ℕ) → put-decimal-lts.Need-same-length-2 (
-  digit-reads.Asked,
-  digit-reads.Learnt,
-  put-reads.Asked,
-  put-reads.Learnt,
-  put-decimal-below t,
-  put-decimal.Post,
-) (put-decimal-at t) put-decimal.Post
-put-decimal-same-length-2 t c = c .before .before .put2 .kept .0 ∙ c .before .before .before .before .before .before .before .put-decimal .kept .0
+  put-decimal-digit-requires-2 : Of put-decimal-lts.Need-digit-requires-2
+  put-decimal-digit-requires-2 c κs = omega arith
 
-put-decimal-returns-2 : (t : ℕ) → put-decimal-lts.Need-returns-2 (
-  digit-reads.Asked,
-  digit-reads.Learnt,
-  put-reads.Asked,
-  put-reads.Learnt,
-  put-decimal-below t,
-  put-decimal.Post,
-) (put-decimal-at t) put-decimal.Post
-put-decimal-returns-2 t c =
-    let h = c .before .before .before .before .before .before .before .before .before .if1 .left in
-    rw (decimal-more _ h, ← c .before .before .before .digit2 .ensures) (put-more (c .before .before .before .before .before .before .before .put-decimal .ensures) (c .before .before .put2 .ensures))
+  put-decimal-put-requires-2 : Of put-decimal-lts.Need-put-requires-2
+  put-decimal-put-requires-2 c κs =
+      let a = c .before .before .before .before .before .before .before .before in
+      let h = c .before .before .before .before .before .before .if1 .left in
+      let p = c .before .before .before .before .put-decimal in
+      omega (arith, a .pre .1, ap length (decimal-more (a .args .n) h), length-append (decimal (a .args .n / 10)) (digit (a .args .n % 10) ∷ []), p .ensures .ends, p .kept .0)
+
+  put-decimal-same-length-2 : Of put-decimal-lts.Need-same-length-2
+  put-decimal-same-length-2 c = c .before .before .put2 .kept .0 ∙ c .before .before .before .before .before .before .before .put-decimal .kept .0
+
+  put-decimal-returns-2 : Of put-decimal-lts.Need-returns-2
+  put-decimal-returns-2 c =
+      let h = c .before .before .before .before .before .before .before .before .before .if1 .left in
+      rw (decimal-more _ h, ← c .before .before .before .digit2 .ensures) (put-more (c .before .before .before .before .before .before .before .put-decimal .ensures) (c .before .before .put2 .ensures))
 
 pub +put-decimal-spec : {M : Type 1} → statement M
-+put-decimal-spec = close μ-put-decimal λ t. put-decimal-lts.spec (
-  digit-reads.Asked,
-  digit-reads.Learnt,
-  put-reads.Asked,
-  put-reads.Learnt,
-  put-decimal-below t,
-  put-decimal.Post,
-)
++put-decimal-spec = close μ-put-decimal λ t. put-decimal-lts.spec (claims t)
     (put-decimal-at t)
     put-decimal.Post
     (put-decimal-cast-digit t)

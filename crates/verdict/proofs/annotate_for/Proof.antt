@@ -26,8 +26,8 @@ slice-aggregate-annotate-tables : tie.Need-slice-aggregate-annotate-tables
 slice-aggregate-annotate-tables c = search needs
 
 -- the choice of the book
-choice : (c : tie.After-enum-told) → Chose (sheetOf (c .before .before .before .before .before .before .args .sheet)) (c .before .before .before .before .before .before .args .book .now) (c .before .before .read-for .result .tables)
-choice c = was-read _ _ (c .before .before .before .of .ensures) (c .before .before .before .before .before .before .args .book .now) (c .before .before .read-for .result) (c .before .before .read-for .ensures) (c .enum-told .given .1)
+choice : (c : tie.After-enum-told) → let a = c .before .before .before .before .before .before .args in Chose (sheetOf (a .sheet)) (a .book .now) (c .before .before .read-for .result .tables)
+choice c = was-read (c .before .before .before .of .ensures) _ (c .before .before .read-for .result) (c .before .before .read-for .ensures) (c .enum-told .given .1)
 
 annotate-tables-requires : tie.Need-annotate-tables-requires
 annotate-tables-requires c κs = (c .before .before .before .before .before .before .before .before .before .pre .0, (c .before .before .before .before .before .before .before .before .before .pre .1, choice (c .before .before .before) .is-choice))
@@ -35,9 +35,7 @@ annotate-tables-requires c κs = (c .before .before .before .before .before .bef
 returns : tie.Need-returns
 unfolding bookFor _then_ annotated
 returns c =
-    let a = c .before .before .before .before .before .before .before .args in
-    let e = was-refused _ _ (c .before .before .before .before .of .ensures) (a .book .now) (c .before .before .before .read-for .result) (c .before .before .before .read-for .ensures) (c .before .answer .given .0 .0) (c .before .answer .given .1) in
-    rw e (refl, refl)
+    rw (was-refused (c .before .before .before .before .of .ensures) (c .before .before .before .before .before .before .before .args .book .now) (c .before .before .before .read-for .result) (c .before .before .before .read-for .ensures) (c .before .answer .given .1)) (refl, refl)
 
 same-length : tie.Need-same-length
 same-length c = search needs

@@ -25,8 +25,8 @@ slice-aggregate-judge-tables : tie.Need-slice-aggregate-judge-tables
 slice-aggregate-judge-tables c = search needs
 
 -- the choice of the book
-choice : (c : tie.After-enum-told) → Chose (sheetOf (c .before .before .before .before .before .before .args .sheet)) (c .before .before .before .before .before .before .args .book .now) (c .before .before .read-for .result .tables)
-choice c = was-read _ _ (c .before .before .before .of .ensures) (c .before .before .before .before .before .before .args .book .now) (c .before .before .read-for .result) (c .before .before .read-for .ensures) (c .enum-told .given .1)
+choice : (c : tie.After-enum-told) → let a = c .before .before .before .before .before .before .args in Chose (sheetOf (a .sheet)) (a .book .now) (c .before .before .read-for .result .tables)
+choice c = was-read (c .before .before .before .of .ensures) _ (c .before .before .read-for .result) (c .before .before .read-for .ensures) (c .enum-told .given .1)
 
 judge-tables-requires : tie.Need-judge-tables-requires
 judge-tables-requires c κs = (c .before .before .before .before .before .before .before .before .pre .0, (c .before .before .before .before .before .before .before .before .pre .1, choice (c .before .before) .is-choice))
@@ -34,9 +34,7 @@ judge-tables-requires c κs = (c .before .before .before .before .before .before
 returns : tie.Need-returns
 unfolding bookFor _then_ judged
 returns c =
-    let a = c .before .before .before .before .before .before .before .args in
-    let e = was-refused _ _ (c .before .before .before .before .of .ensures) (a .book .now) (c .before .before .before .read-for .result) (c .before .before .before .read-for .ensures) (c .before .answer .given .0 .0) (c .before .answer .given .1) in
-    rw e
+    rw (was-refused (c .before .before .before .before .of .ensures) (c .before .before .before .before .before .before .before .args .book .now) (c .before .before .before .read-for .result) (c .before .before .before .read-for .ensures) (c .before .answer .given .1))
 
 returns-2 : tie.Need-returns-2
 unfolding bookFor _then_

@@ -24,7 +24,7 @@ abbrev μ-loop : tie.MeasureT-loop
 returns : tie.Need-returns Inv-loop μ-loop
 returns c =
     let a = c .before .before .before .args in
-    sym (ap not (wrong-length (placesOf (a .places .now) (a .n)) (a .book .now) (λ e. c .if1 .taken (e ∙ places-length (a .places .now) (a .n) (c .before .before .before .pre)))))
+    sym (ap not (wrong-length (placesOf (a .places .now) (a .n)) (a .book .now) (λ e. omega (arith, c .if1 .taken, e, places-length (a .places .now) (a .n) (c .before .before .before .pre)))))
 
 loop-holds : tie.Need-loop-holds Inv-loop μ-loop
 loop-holds c = (omega arith, refl)
