@@ -6,7 +6,7 @@ use Prim.Native.Nat.{ℕ}
 use lib.ListN.{drop}
 use Rattle.model.specs.Choice.{entries, values}
 use Rattle.model.specs.Computed.{keeps, firstChoice}
-use Rattle.model.proofs.Order.{settle, try, settle-first, settle-cons, skip, hit}
+use Rattle.model.proofs.SettlingOrder.{settle, try, settle-first, settle-cons, skip, hit}
 use Rattle.arbiter.specs.Arbiter.{arbiter, alternating}
 
 -- the values of an output mask

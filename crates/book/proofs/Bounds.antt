@@ -10,10 +10,10 @@ use Rattle.model.specs.declared.Refusal.the-variants.{NoSuchProcess, BadBook}
 use Rattle.model.specs.Sheet.{Sheet, Reading, refused, proper, readSheet}
 use Rattle.model.specs.Book.{form, records, bookLength, bookFault, readBook, partEnd}
 use Rattle.model.specs.Calls.{AfterPart, noProcess, partSheet, cut, partOf}
-use Rattle.model.proofs.Sheet.{passes, goes-on, Good, sheet-good}
-use Rattle.model.proofs.Lengths.{book-short}
-use Rattle.model.proofs.Part.{HasPart, part-right}
-use Rattle.book.proofs.Places.{right-length}
+use Rattle.model.proofs.ProperSheet.{passes, goes-on, Good, sheet-good}
+use Rattle.model.proofs.Sizes.{book-short}
+use Rattle.model.proofs.PartIsRecords.{HasPart, part-right}
+use Rattle.book.proofs.Slots.{right-length}
 
 -- from its start to its end, and no further than the book goes, which is at most 338 bytes
 pub record Within (p : AfterPart) (book : List ℕ) : Type 0 where

@@ -1,4 +1,4 @@
 -- the laws that the proofs of the functions cite
-pub mod Places
+pub mod Slots
 pub mod Same
 pub mod Bounds

@@ -8,8 +8,8 @@ use Rattle.model.specs.Sheet.{Sheet, Reading, refused, proper, refuse_when_else
 use Rattle.model.specs.Choice.{entries}
 use Rattle.model.specs.Book.{form, bookOf, bookLength, bookFault, entryFault, readBook, partEnd}
 use Rattle.model.specs.Calls.{bookShort, noProcess, cut, written, partSheet}
-use Rattle.machine.specs.declared.Architecture.{Architecture}
-use Rattle.machine.specs.Struct.{ArchitectureOf, sheetWith}
+use Rattle.composition.specs.declared.Architecture.{Architecture}
+use Rattle.composition.specs.Struct.{ArchitectureOf, sheetWith}
 use Rattle.book.specs.Answers.{writtenBy, partBy}
 
 -- a part looks at the processes alone

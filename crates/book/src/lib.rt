@@ -5,13 +5,13 @@ ghost use lib.ListN.{length};
 ghost use Rattle.model.specs.Book as model;
 ghost use Rattle.model.specs.Sheet.{refused};
 ghost use Rattle.model.specs.Calls.{wrote, gave, cut};
-ghost use Rattle.machine.specs.Struct.{sheetWith, processesIn};
-ghost use Rattle.machine.specs.Struct.{Sized as Whole};
+ghost use Rattle.composition.specs.Struct.{sheetWith, processesIn};
+ghost use Rattle.composition.specs.Struct.{Sized as Whole};
 ghost use Rattle.book.specs.Answers.{afterRead, afterPart, writtenBy, fittingBy, partBy};
 
 mod walk;
 
-use machine::Architecture;
+use composition::Architecture;
 use model::Refusal;
 use model::Reply;
 use walk::is_malformed;
@@ -43,12 +43,12 @@ pub fn write_for(a: Architecture, tables: &[u8; 272], book: &mut [u8]) -> Reply
     if is_misfit(&kinds, entries, tables) {
         return Reply::Refused(Refusal::BadEntry);
     }
-    let mut places = [0u16; 338];
-    let n = layout::fill_places(&mut places, a);
+    let mut slots = [0u16; 338];
+    let n = layout::fill_slots(&mut slots, a);
     if book.len() < n {
         return Reply::Refused(Refusal::BookBufferTooShort);
     }
-    put_bytes(book, &places, n, tables);
+    put_bytes(book, &slots, n, tables);
     Reply::Done
 }
 
@@ -84,13 +84,13 @@ pub fn read_for(a: Architecture, book: &[u8]) -> TablesRead
     requires { ⌜ Whole a ⌝ }
     ensures { λ r. ⌜ afterRead r ≡ gave (model.readBook (sheetWith a) (now (book .entry))) ⌝ }
 {
-    let mut places = [0u16; 338];
-    let n = layout::fill_places(&mut places, a);
-    if is_malformed(&places, n, book) {
+    let mut slots = [0u16; 338];
+    let n = layout::fill_slots(&mut slots, a);
+    if is_malformed(&slots, n, book) {
         return unread(Refusal::BadBook);
     }
     let mut tables = [0u8; 272];
-    take_entries(&mut tables, &places, n, book);
+    take_entries(&mut tables, &slots, n, book);
     fitting(a, tables)
 }
 
@@ -103,7 +103,7 @@ fn part_start(a: Architecture, i: usize) -> usize
     let mut at: usize = 0;
     let mut k: usize = 0;
     while k < i {
-        at += a.bound_of(k) * (4 + machine::row_length(a.inputs_of(k)));
+        at += a.bound_of(k) * (4 + composition::row_length(a.inputs_of(k)));
         k += 1;
     }
     at
@@ -121,7 +121,7 @@ pub fn nowhere(refusal: Refusal) -> Part
 }
 
 // Of a proper sheet: where the records of process i are in the book.
-pub fn place_for(a: Architecture, book: &[u8], i: usize) -> Part
+pub fn range_for(a: Architecture, book: &[u8], i: usize) -> Part
     requires { ⌜ Whole a ⌝ }
     ensures { λ r. ⌜ afterPart r ≡ cut (partBy (sheetWith a) (now (book .entry)) i) i ⌝ }
 {

@@ -7,31 +7,31 @@ ghost use lib.ListN.{length, take, drop};
 ghost use Rattle.model.specs.Choice.{fits};
 ghost use Rattle.model.specs.Book.{wellFormed, entriesIn, filled};
 ghost use Rattle.model.specs.Calls.{front};
-ghost use Rattle.model.proofs.Book.{holes};
-ghost use Rattle.layout.specs.Codes.{placeOf, placesOf, kindsOf};
+ghost use Rattle.model.proofs.BookInverse.{holes};
+ghost use Rattle.layout.specs.Codes.{slotOf, slotsOf, kindsOf};
 use layout::may_be;
 
 // The byte is not the one that is due.
-fn differs(place: u16, byte: u8) -> bool
-    ensures { λ r. ⌜ r ≡ not (wellFormed (placeOf place ∷ []) (byte ∷ [])) ⌝ }
+fn differs(slot: u16, byte: u8) -> bool
+    ensures { λ r. ⌜ r ≡ not (wellFormed (slotOf slot ∷ []) (byte ∷ [])) ⌝ }
 {
-    if place == 0 {
+    if slot == 0 {
         return false;
     }
-    byte as u16 != (place - 1) % 256
+    byte as u16 != (slot - 1) % 256
 }
 
 // 10: the book is too long or too short, or a byte is not the one that is due.
-pub fn is_malformed(places: &[u16], n: usize, book: &[u8]) -> bool
-    requires { ⌜ n ≤ length (now places) ⌝ }
-    ensures { λ r. ⌜ r ≡ not (wellFormed (placesOf (now (places .entry)) n) (now (book .entry))) ⌝ }
+pub fn is_malformed(slots: &[u16], n: usize, book: &[u8]) -> bool
+    requires { ⌜ n ≤ length (now slots) ⌝ }
+    ensures { λ r. ⌜ r ≡ not (wellFormed (slotsOf (now (slots .entry)) n) (now (book .entry))) ⌝ }
 {
     if book.len() != n {
         return true;
     }
     let mut k: usize = 0;
     while k < n {
-        if differs(places[k], book[k]) {
+        if differs(slots[k], book[k]) {
             return true;
         }
         k += 1;
@@ -39,13 +39,13 @@ pub fn is_malformed(places: &[u16], n: usize, book: &[u8]) -> bool
     false
 }
 
-// Puts the byte at e if the place is an entry, and answers where the next entry goes.
-fn keep(tables: &mut [u8], e: usize, place: u16, byte: u8) -> usize
-    requires { ⌜ e + length (entriesIn (placeOf place ∷ []) (byte ∷ [])) ≤ length (now tables) ⌝ }
-    ensures { λ r. ⌜ r ≡ e + length (entriesIn (placeOf place ∷ []) (byte ∷ [])) ⌝ }
-    ensures { λ r. ⌜ now (tables .exit) ≡ take e (now (tables .entry)) ++ entriesIn (placeOf place ∷ []) (byte ∷ []) ++ drop r (now (tables .entry)) ⌝ }
+// Puts the byte at e if the slot is an entry, and answers where the next entry goes.
+fn take_entry(tables: &mut [u8], e: usize, slot: u16, byte: u8) -> usize
+    requires { ⌜ e + length (entriesIn (slotOf slot ∷ []) (byte ∷ [])) ≤ length (now tables) ⌝ }
+    ensures { λ r. ⌜ r ≡ e + length (entriesIn (slotOf slot ∷ []) (byte ∷ [])) ⌝ }
+    ensures { λ r. ⌜ now (tables .exit) ≡ take e (now (tables .entry)) ++ entriesIn (slotOf slot ∷ []) (byte ∷ []) ++ drop r (now (tables .entry)) ⌝ }
 {
-    if place != 0 {
+    if slot != 0 {
         return e;
     }
     tables[e] = byte;
@@ -53,15 +53,15 @@ fn keep(tables: &mut [u8], e: usize, place: u16, byte: u8) -> usize
 }
 
 // The entries of a book go to the front of the tables.
-pub fn take_entries(tables: &mut [u8], places: &[u16], n: usize, book: &[u8])
-    requires { ⌜ (n ≤ length (now places)) × (n ≤ length (now book)) ⌝ }
-    requires { ⌜ holes (placesOf (now places) n) ≤ length (now tables) ⌝ }
-    ensures { λ _. ⌜ now (tables .exit) ≡ front (entriesIn (placesOf (now (places .entry)) n) (now (book .entry))) (now (tables .entry)) ⌝ }
+pub fn take_entries(tables: &mut [u8], slots: &[u16], n: usize, book: &[u8])
+    requires { ⌜ (n ≤ length (now slots)) × (n ≤ length (now book)) ⌝ }
+    requires { ⌜ holes (slotsOf (now slots) n) ≤ length (now tables) ⌝ }
+    ensures { λ _. ⌜ now (tables .exit) ≡ front (entriesIn (slotsOf (now (slots .entry)) n) (now (book .entry))) (now (tables .entry)) ⌝ }
 {
     let mut e: usize = 0;
     let mut k: usize = 0;
     while k < n {
-        e = keep(tables, e, places[k], book[k]);
+        e = take_entry(tables, e, slots[k], book[k]);
         k += 1;
     }
 }
@@ -81,41 +81,41 @@ pub fn is_misfit(kinds: &[u16], n: usize, tables: &[u8]) -> bool
     false
 }
 
-// The byte of a book at this place, whose entry, if it is one, is the next.
-fn byte_of(place: u16, tables: &[u8], e: usize) -> u8
-    requires { ⌜ e + holes (placeOf place ∷ []) ≤ length (now tables) ⌝ }
-    ensures { λ r. ⌜ r ∷ [] ≡ filled (placeOf place ∷ []) (drop e (now (tables .entry))) ⌝ }
+// The byte of a book at this slot, whose entry, if it is one, is the next.
+fn byte_of(slot: u16, tables: &[u8], e: usize) -> u8
+    requires { ⌜ e + holes (slotOf slot ∷ []) ≤ length (now tables) ⌝ }
+    ensures { λ r. ⌜ r ∷ [] ≡ filled (slotOf slot ∷ []) (drop e (now (tables .entry))) ⌝ }
 {
-    if place == 0 {
+    if slot == 0 {
         return tables[e];
     }
-    ((place - 1) % 256) as u8
+    ((slot - 1) % 256) as u8
 }
 
-// Where the next entry is, behind this place.
-fn entry_after(place: u16, e: usize) -> usize
+// Where the next entry is, behind this slot.
+fn entry_after(slot: u16, e: usize) -> usize
     requires { ⌜ e < 65536 ⌝ }
-    ensures { λ r. ⌜ r ≡ e + holes (placeOf place ∷ []) ⌝ }
+    ensures { λ r. ⌜ r ≡ e + holes (slotOf slot ∷ []) ⌝ }
 {
-    if place == 0 {
+    if slot == 0 {
         return e + 1;
     }
     e
 }
 
 // The book of these entries goes to the front of the buffer.
-pub fn put_bytes(book: &mut [u8], places: &[u16], n: usize, tables: &[u8])
-    requires { ⌜ (n ≤ length (now places)) × (n ≤ length (now book)) ⌝ }
-    requires { ⌜ holes (placesOf (now places) n) ≤ length (now tables) ⌝ }
+pub fn put_bytes(book: &mut [u8], slots: &[u16], n: usize, tables: &[u8])
+    requires { ⌜ (n ≤ length (now slots)) × (n ≤ length (now book)) ⌝ }
+    requires { ⌜ holes (slotsOf (now slots) n) ≤ length (now tables) ⌝ }
     requires { ⌜ length (now tables) < 65536 ⌝ }
-    ensures { λ _. ⌜ now (book .exit) ≡ front (filled (placesOf (now (places .entry)) n) (now (tables .entry))) (now (book .entry)) ⌝ }
+    ensures { λ _. ⌜ now (book .exit) ≡ front (filled (slotsOf (now (slots .entry)) n) (now (tables .entry))) (now (book .entry)) ⌝ }
 {
     let mut e: usize = 0;
     let mut k: usize = 0;
     while k < n {
-        let place = places[k];
-        book[k] = byte_of(place, tables, e);
-        e = entry_after(place, e);
+        let slot = slots[k];
+        book[k] = byte_of(slot, tables, e);
+        e = entry_after(slot, e);
         k += 1;
     }
 }

@@ -179,12 +179,12 @@ pub fn reread(case: &[u8], sheet: &[u8], book: &[u8])
     }
 }
 
-// The part of a process. An empty one has its refusal from `place`.
+// The part of a process. An empty one has its refusal from `range`.
 pub fn part(case: &[u8], sheet: &[u8], book: &[u8], process: usize) {
     open(case, b"part ");
     print::number(process as u64);
-    let place = planner::place(sheet, book, process);
-    let answer = place.answer;
+    let range = planner::range(sheet, book, process);
+    let answer = range.answer;
     match answer {
         Reply::Refused(refusal) => refused(refusal),
         Reply::Done => print::bytes(planner::part(sheet, book, process)),

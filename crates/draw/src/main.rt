@@ -2,12 +2,12 @@
 ghost use Prim.Native.Nat.{_<_, _≤_};
 ghost use lib.ListN.{length};
 ghost use Rattle.model.specs.Choice.{entries as entriesOf};
-ghost use Rattle.model.proofs.Sheet.{Good};
+ghost use Rattle.model.proofs.ProperSheet.{Good};
 ghost use Rattle.sheet.specs.Struct.{sheetOf, Sized as Whole};
-ghost use Rattle.machine.specs.Struct.{Sized, sheetWith};
+ghost use Rattle.composition.specs.Struct.{Sized, sheetWith};
+use composition::Architecture;
 use libc::STDIN_FILENO;
 use libc::STDOUT_FILENO;
-use machine::Architecture;
 use model::ProcessState;
 use model::Refusal;
 use model::Reply;
@@ -196,7 +196,7 @@ fn draw_rows(a: Architecture, i: usize, tables: &[u8])
     requires { ⌜ i < a .processes ⌝ }
     requires { ⌜ length (entriesOf (sheetWith a)) ≤ length (now tables) ⌝ }
 {
-    let row = machine::row_length(a.inputs_of(i));
+    let row = composition::row_length(a.inputs_of(i));
     let bound = a.bound_of(i);
     let mut x: usize = 0;
     while x < bound {

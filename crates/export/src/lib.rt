@@ -91,11 +91,11 @@ pub extern "C" fn soclethyme_read(sheet: &[u8], book: &[u8], tables: &mut [u8; 2
 pub extern "C" fn soclethyme_part(sheet: &[u8], book: &[u8], process: usize) -> u32
     ensures { λ r. ⌜ r ≡ partCode (partOf (now (sheet .entry)) (now (book .entry)) process) ⌝ }
 {
-    let place = planner::place(sheet, book, process);
-    let answer = place.answer;
+    let range = planner::range(sheet, book, process);
+    let answer = range.answer;
     match answer {
         Reply::Refused(refusal) => refusal.number(),
-        Reply::Done => place.end as u32 * 65536 + place.start as u32,
+        Reply::Done => range.end as u32 * 65536 + range.start as u32,
     }
 }
 

@@ -21,24 +21,24 @@ use Rattle.model.specs.Computed.{runGraph, annotation, keeps, firstChoice}
 use Rattle.model.specs.Book.{form, bookLength, bookOf, readBook}
 use Rattle.model.specs.Calls.{AfterFind, AfterRead, front, bookShort, annotationShort, findSheet, findChoice, findIn, findOf, tablesOf, gave}
 use Rattle.model.specs.Numbers.{number}
-use Rattle.model.proofs.Sheet.{passes, goes-on, Good, sheet-good}
-use Rattle.model.proofs.Lengths.{book-short}
-use Rattle.model.proofs.Book.{filled-length}
-use Rattle.model.proofs.Books.{written-is-read}
-use Rattle.model.proofs.First.{first-some, entries-small}
+use Rattle.model.proofs.ProperSheet.{passes, goes-on, Good, sheet-good}
+use Rattle.model.proofs.Sizes.{book-short}
+use Rattle.model.proofs.BookInverse.{filled-length}
+use Rattle.model.proofs.DemandTwo.{written-is-read}
+use Rattle.model.proofs.FirstInOrder.{first-some, entries-small}
 use Rattle.sheet.specs.declared.Sheet as sheets
 use Rattle.sheet.specs.declared.Reading.{Reading}
 use Rattle.sheet.specs.Struct.{sheetOf, readingAs, readingOf}
-use Rattle.machine.specs.declared.Architecture.{Architecture}
-use Rattle.machine.specs.Struct.{ArchitectureOf, sheetWith}
-use Rattle.machine.proofs.Sheets.{same-entries, same-T}
+use Rattle.composition.specs.declared.Architecture.{Architecture}
+use Rattle.composition.specs.Struct.{ArchitectureOf, sheetWith}
+use Rattle.composition.proofs.Sheets.{same-entries, same-T}
 use Rattle.book.specs.declared.TablesRead.{TablesRead}
 use Rattle.book.specs.Answers.{afterRead}
 use Rattle.book.proofs.Same.{same-book}
 use Rattle.graph.proofs.Chosen.{chosen-tables}
 use Rattle.graph.proofs.Whole.{vertices-few}
-use Rattle.report.specs.Text.{textOf, noneText, refusedText}
-use Rattle.report.proofs.Same.{same-text, text-front}
+use Rattle.text.specs.Text.{textOf, noneText, refusedText}
+use Rattle.text.proofs.Same.{same-text, text-front}
 use Rattle.find.specs.Printed.{choiceText, sheetText, printed, found}
 
 -- the choice whose book and annotation the buffers have at the front

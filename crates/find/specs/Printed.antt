@@ -8,7 +8,7 @@ use Rattle.model.specs.Sheet.{Sheet, Reading, refused, proper, readSheet}
 use Rattle.model.specs.Computed.{annotation, firstChoice}
 use Rattle.model.specs.Calls.{AfterFind}
 use Rattle.model.specs.Numbers.{number}
-use Rattle.report.specs.Text.{textOf, noneText, refusedText}
+use Rattle.text.specs.Text.{textOf, noneText, refusedText}
 
 -- the first choice that keeps the sheet, with its annotation; or `none`
 unfoldable pub choiceText : Sheet → Option (List ℕ) → List ℕ

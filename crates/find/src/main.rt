@@ -2,13 +2,13 @@
 ghost use mathlib.Core.Path.{_≡_};
 ghost use Rattle.model.specs.Computed.{firstChoice};
 ghost use Rattle.model.specs.Calls.{findChoice, findOf};
-ghost use Rattle.model.proofs.Sheet.{Good};
+ghost use Rattle.model.proofs.ProperSheet.{Good};
 ghost use Rattle.sheet.specs.Struct.{sheetOf, Sized};
-ghost use Rattle.report.specs.Puts.{Holds};
+ghost use Rattle.text.specs.Puts.{Holds};
 ghost use Rattle.find.specs.Printed.{choiceText, printed, found, book₀, annotation₀};
+use composition::Architecture;
 use libc::STDIN_FILENO;
 use libc::STDOUT_FILENO;
-use machine::Architecture;
 use model::Outcome;
 use sheet::Sheet;
 
@@ -23,12 +23,12 @@ fn choice_text(text: &mut [u8; 1024], sheet: Sheet, book: &[u8], annotation: &[u
     ensures { λ r. ⌜ Holds (now (text .exit)) r (choiceText (sheetOf sheet) (firstChoice (sheetOf sheet))) ⌝ }
 {
     let a = Architecture::of(sheet);
-    let mut places = [0u16; 338];
-    let length = layout::fill_places(&mut places, a);
+    let mut slots = [0u16; 338];
+    let length = layout::fill_slots(&mut slots, a);
     let read = book::read_for(a, &book[..length]);
     let tables = read.tables;
     let vertices = sheet.states as usize * a.composed_states();
-    report::tables_text(text, a, &tables, &annotation[..vertices])
+    text::tables_text(text, a, &tables, &annotation[..vertices])
 }
 
 // The text of the tables that find put into the book.
@@ -49,8 +49,8 @@ fn answer_text(text: &mut [u8; 1024], sheet: &[u8]) -> usize
     let mut annotation = [0u16; 4096];
     let outcome = planner::find(sheet, &mut book, &mut annotation);
     match outcome {
-        Outcome::Refused(refusal) => report::refused_text(text, refusal),
-        Outcome::Nothing => report::none_text(text),
+        Outcome::Refused(refusal) => text::refused_text(text, refusal),
+        Outcome::Nothing => text::none_text(text),
         Outcome::Tables => found_text(text, sheet, &book, &annotation),
     }
 }

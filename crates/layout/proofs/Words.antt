@@ -12,9 +12,9 @@ use Rattle.model.specs.Mask.{if, count}
 use Rattle.model.specs.Sheet.{Process, Sheet}
 use Rattle.model.specs.Compose.{rowLength}
 use Rattle.model.specs.Choice.{Entry, output, next, row, times, rows}
-use Rattle.model.specs.Book.{Place, due, entry, records, allRecords, form}
-use Rattle.model.proofs.Sheet.{Good}
-use Rattle.layout.specs.Codes.{placeOf, placeCode, kindOf, kindCode, Puts}
+use Rattle.model.specs.Book.{Slot, due, entry, records, allRecords, form}
+use Rattle.model.proofs.ProperSheet.{Good}
+use Rattle.layout.specs.Codes.{slotOf, slotCode, kindOf, kindCode, Puts}
 
 -- ---- one word, and words behind words
 pub put-one : (l : List ℕ) (at v : ℕ) → at < length l → Puts l at (v ∷ []) (at + 1) (set l at v)
@@ -71,18 +71,18 @@ module _ {w n : ℕ} {due : ℕ → List ℕ} {l₀ : List ℕ} where
 
 -- ---- what words say
 -- every byte that is due is a byte
-unfoldable pub Bytes : List Place → Type 0
+unfoldable pub Bytes : List Slot → Type 0
 Bytes [] = Unit
 Bytes (due x ∷ ps) = (x < 256) × Bytes ps
 Bytes (entry ∷ ps) = Bytes ps
 
-pub places-back : (ps : List Place) → Bytes ps → map placeOf (map placeCode ps) ≡ ps
-unfolding placeOf placeCode Bytes
-places-back [] h = refl
-places-back (due x ∷ ps) h = ap₂ (λ (y : ℕ) (qs : List Place). due y ∷ qs) (mod-eq-of-lt (h .0)) (places-back ps (h .1))
-places-back (entry ∷ ps) h = ap (λ (qs : List Place). entry ∷ qs) (places-back ps h)
+pub slots-back : (ps : List Slot) → Bytes ps → map slotOf (map slotCode ps) ≡ ps
+unfolding slotOf slotCode Bytes
+slots-back [] h = refl
+slots-back (due x ∷ ps) h = ap₂ (λ (y : ℕ) (qs : List Slot). due y ∷ qs) (mod-eq-of-lt (h .0)) (slots-back ps (h .1))
+slots-back (entry ∷ ps) h = ap (λ (qs : List Slot). entry ∷ qs) (slots-back ps h)
 
-bytes-append : (ps qs : List Place) → Bytes ps → Bytes qs → Bytes (ps ++ qs)
+bytes-append : (ps qs : List Slot) → Bytes ps → Bytes qs → Bytes (ps ++ qs)
 unfolding Bytes
 bytes-append [] qs h k = k
 bytes-append (due x ∷ ps) qs h k = (h .0, bytes-append ps qs (h .1) k)
@@ -126,13 +126,13 @@ map-replicate f (suc n) a = ap (λ (l : List ℕ). f a ∷ l) (map-replicate f n
 
 -- the next record, and those after it
 pub records-turn : (i : ℕ) (p : Process) (n x : ℕ) → x < n
-    → map placeCode (records i p (n - x) x) ≡ (suc 0x54 ∷ suc 0x42 ∷ suc i ∷ suc x ∷ replicate (rowLength p) 0) ++ map placeCode (records i p (n - (x + 1)) (x + 1))
-unfolding records placeCode
+    → map slotCode (records i p (n - x) x) ≡ (suc 0x54 ∷ suc 0x42 ∷ suc i ∷ suc x ∷ replicate (rowLength p) 0) ++ map slotCode (records i p (n - (x + 1)) (x + 1))
+unfolding records slotCode
 records-turn i p n x h =
     let e : n - x ≡ suc (n - (x + 1)) = omega arith in
     rw (e, add-one x)
     (ap (λ (l : List ℕ). suc 0x54 ∷ suc 0x42 ∷ suc i ∷ suc x ∷ l)
-    (map-append placeCode (replicate (rowLength p) entry) (records i p (n - suc x) (suc x)) ∙ ap (λ (l : List ℕ). l ++ map placeCode (records i p (n - suc x) (suc x))) (map-replicate placeCode (rowLength p) entry)))
+    (map-append slotCode (replicate (rowLength p) entry) (records i p (n - suc x) (suc x)) ∙ ap (λ (l : List ℕ). l ++ map slotCode (records i p (n - suc x) (suc x))) (map-replicate slotCode (rowLength p) entry)))
 
 -- the next row, and those after it
 pub rows-turn : (p : Process) (n x : ℕ) → x < n
@@ -155,11 +155,11 @@ unfolding rows
 kinds-turn p ps = map-append kindCode (times (p .bound) (row p)) (rows ps)
 
 -- the records of the first of these processes, and of the rest
-pub places-turn : (i : ℕ) (p : Process) (ps : List Process) (end : List Place)
-    → map placeCode (allRecords i (p ∷ ps) ++ end) ≡ map placeCode (records i p (p .bound) 0) ++ map placeCode (allRecords (i + 1) ps ++ end)
+pub slots-turn : (i : ℕ) (p : Process) (ps : List Process) (end : List Slot)
+    → map slotCode (allRecords i (p ∷ ps) ++ end) ≡ map slotCode (records i p (p .bound) 0) ++ map slotCode (allRecords (i + 1) ps ++ end)
 unfolding allRecords
-places-turn i p ps end =
-    rw (add-one i) (ap (map placeCode) (append-assoc (records i p (p .bound) 0) (allRecords (suc i) ps) end) ∙ map-append placeCode (records i p (p .bound) 0) (allRecords (suc i) ps ++ end))
+slots-turn i p ps end =
+    rw (add-one i) (ap (map slotCode) (append-assoc (records i p (p .bound) 0) (allRecords (suc i) ps) end) ∙ map-append slotCode (records i p (p .bound) 0) (allRecords (suc i) ps ++ end))
 
 -- the words that were put are as many as what they say
 pub put-length : {A : Type 0} (f : A → ℕ) (l : List A) (words : List ℕ) (at : ℕ) → at ≤ length words → take at words ≡ map f l → at ≡ length l

@@ -6,17 +6,17 @@ use lib.Dec.{eqb}
 use lib.ListN.{take}
 use Rattle.model.specs.Mask.{if}
 use Rattle.model.specs.Choice.{Entry, output, next}
-use Rattle.model.specs.Book.{Place, due, entry}
+use Rattle.model.specs.Book.{Slot, due, entry}
 
 -- 0 is an entry; any other word is one more than the byte that is due
-unfoldable pub placeOf : ℕ → Place
-placeOf zero = entry
-placeOf (suc x) = due (x % 256)
+unfoldable pub slotOf : ℕ → Slot
+slotOf zero = entry
+slotOf (suc x) = due (x % 256)
 
 -- the word of a byte of a book
-unfoldable pub placeCode : Place → ℕ
-placeCode entry = 0
-placeCode (due x) = suc x
+unfoldable pub slotCode : Slot → ℕ
+slotCode entry = 0
+slotCode (due x) = suc x
 
 -- an even word is twice an output mask, an odd one twice a bound and one more
 unfoldable pub kindOf : ℕ → Entry
@@ -29,8 +29,8 @@ kindCode (output m) = m * 2
 kindCode (next b) = b * 2 + 1
 
 -- the first n words, as the bytes of a book
-abbrev pub placesOf : List ℕ → ℕ → List Place
-placesOf words n = map placeOf (take n words)
+abbrev pub slotsOf : List ℕ → ℕ → List Slot
+slotsOf words n = map slotOf (take n words)
 
 -- the first n words, as the entries of a choice
 abbrev pub kindsOf : List ℕ → ℕ → List Entry

@@ -5,10 +5,10 @@ ghost use Prim.Native.Nat.{suc, _+_, _*_, _<_, _≤_};
 ghost use lib.ListN.{length, getD, replicate};
 ghost use Rattle.model.specs.Choice as choice;
 ghost use Rattle.model.specs.Book as book;
-ghost use Rattle.machine.specs.Struct.{sheetWith, processIn};
-ghost use Rattle.machine.specs.Struct.{Sized as Whole};
-ghost use Rattle.layout.specs.Codes.{placeCode, kindCode, kindOf, placesOf, kindsOf, Puts};
-use machine::Architecture;
+ghost use Rattle.composition.specs.Struct.{sheetWith, processIn};
+ghost use Rattle.composition.specs.Struct.{Sized as Whole};
+ghost use Rattle.layout.specs.Codes.{slotCode, kindCode, kindOf, slotsOf, kindsOf, Puts};
+use composition::Architecture;
 
 // The mark of a book's record.
 pub const TB: [u8; 2] = *b"TB";
@@ -42,31 +42,31 @@ fn fill(words: &mut [u16], at: usize, word: u16, count: usize)
 
 // ---- the bytes of a book
 // The record of process i for its state x.
-fn put_record(places: &mut [u16], at: usize, i: usize, x: usize, row: usize)
-    requires { ⌜ at + (4 + row) ≤ length (now places) ⌝ }
+fn put_record(slots: &mut [u16], at: usize, i: usize, x: usize, row: usize)
+    requires { ⌜ at + (4 + row) ≤ length (now slots) ⌝ }
     requires { ⌜ (i < 4) × (x < 4) ⌝ }
-    ensures { λ _. ⌜ Puts (now (places .entry)) at (suc 0x54 ∷ suc 0x42 ∷ suc i ∷ suc x ∷ replicate row 0) (at + (4 + row)) (now (places .exit)) ⌝ }
+    ensures { λ _. ⌜ Puts (now (slots .entry)) at (suc 0x54 ∷ suc 0x42 ∷ suc i ∷ suc x ∷ replicate row 0) (at + (4 + row)) (now (slots .exit)) ⌝ }
 {
-    places[at] = due(TB[0]);
-    places[at + 1] = due(TB[1]);
-    places[at + 2] = due_number(i);
-    places[at + 3] = due_number(x);
-    fill(places, at + 4, 0, row);
+    slots[at] = due(TB[0]);
+    slots[at + 1] = due(TB[1]);
+    slots[at + 2] = due_number(i);
+    slots[at + 3] = due_number(x);
+    fill(slots, at + 4, 0, row);
 }
 
 // All records of process i.
-fn put_records(places: &mut [u16], start: usize, a: Architecture, i: usize) -> usize
+fn put_records(slots: &mut [u16], start: usize, a: Architecture, i: usize) -> usize
     requires { ⌜ Whole a ⌝ }
-    requires { ⌜ (i < a .processes) × (start + 84 ≤ length (now places)) ⌝ }
+    requires { ⌜ (i < a .processes) × (start + 84 ≤ length (now slots)) ⌝ }
     ensures { λ r. ⌜ (r ≡ start + book.recordsLength (processIn a i)) × (r ≤ start + 84) ⌝ }
-    ensures { λ r. ⌜ Puts (now (places .entry)) start (map placeCode (book.records i (processIn a i) (getD (a .bounds) i 0) 0)) r (now (places .exit)) ⌝ }
+    ensures { λ r. ⌜ Puts (now (slots .entry)) start (map slotCode (book.records i (processIn a i) (getD (a .bounds) i 0) 0)) r (now (slots .exit)) ⌝ }
 {
-    let row = machine::row_length(a.inputs_of(i));
+    let row = composition::row_length(a.inputs_of(i));
     let bound = a.bound_of(i);
     let mut at = start;
     let mut x: usize = 0;
     while x < bound {
-        put_record(places, at, i, x, row);
+        put_record(slots, at, i, x, row);
         at += 4 + row;
         x += 1;
     }
@@ -74,21 +74,21 @@ fn put_records(places: &mut [u16], start: usize, a: Architecture, i: usize) -> u
 }
 
 // What each byte of a book is, and how many there are.
-pub fn fill_places(places: &mut [u16], a: Architecture) -> usize
+pub fn fill_slots(slots: &mut [u16], a: Architecture) -> usize
     requires { ⌜ Whole a ⌝ }
-    requires { ⌜ 338 ≤ length (now places) ⌝ }
+    requires { ⌜ 338 ≤ length (now slots) ⌝ }
     ensures { λ r. ⌜ (r ≡ book.bookLength (sheetWith a)) × (r ≤ 338) ⌝ }
-    ensures { λ r. ⌜ placesOf (now (places .exit)) r ≡ book.form (sheetWith a) ⌝ }
+    ensures { λ r. ⌜ slotsOf (now (slots .exit)) r ≡ book.form (sheetWith a) ⌝ }
 {
     let n = a.processes;
     let mut at: usize = 0;
     let mut i: usize = 0;
     while i < n {
-        at = put_records(places, at, a, i);
+        at = put_records(slots, at, a, i);
         i += 1;
     }
-    places[at] = due(sheet::EN[0]);
-    places[at + 1] = due(sheet::EN[1]);
+    slots[at] = due(sheet::EN[0]);
+    slots[at + 1] = due(sheet::EN[1]);
     at + 2
 }
 
@@ -123,7 +123,7 @@ fn put_rows(kinds: &mut [u16], start: usize, a: Architecture, i: usize) -> usize
     ensures { λ r. ⌜ r ≤ start + 68 ⌝ }
     ensures { λ r. ⌜ Puts (now (kinds .entry)) start (map kindCode (choice.times (getD (a .bounds) i 0) (choice.row (processIn a i)))) r (now (kinds .exit)) ⌝ }
 {
-    let states = machine::row_length(a.inputs_of(i)) - 1;
+    let states = composition::row_length(a.inputs_of(i)) - 1;
     let all_outputs = a.outputs;
     let all_bounds = a.bounds;
     let outputs = all_outputs[i];

@@ -11,7 +11,7 @@ use borrow.Author.Tests.{lt-ltb, eq-eqb}
 use Rattle.model.specs.Mask.{within, count}
 use Rattle.model.specs.Sheet.{Process, Sheet}
 use Rattle.model.specs.Choice.{Entry, output, next, may, row, times, rows, entries, Fits, done, also, IsChoice, Before, lower, later}
-use Rattle.model.proofs.Sheet.{Good}
+use Rattle.model.proofs.ProperSheet.{Good}
 
 -- ---- by place
 pub fits-at : {es : List Entry} {c : List ℕ} → Fits es c → (e₀ : Entry) (i : ℕ) → i < length es → may (getD es i e₀) (getD c i 0) ≡ true

@@ -5,7 +5,7 @@ use mathlib.Core.List.{List, [], _∷_, _++_, map, List·Memᴰ}
 use Prim.Native.Nat.{ℕ, zero, suc, _-_, _*_, _^_, _<_, min}
 use lib.Dec.{ltb}
 use lib.ListN.{replicate, take, drop}
-use Rattle.theory.specs.Lists.{keep}
+use Rattle.theory.specs.Lists.{filter}
 use Rattle.model.specs.Mask.{within, count, from}
 use Rattle.model.specs.Sheet.{Process, Sheet}
 use Rattle.model.specs.Compose.{rowLength, processLength}
@@ -23,8 +23,8 @@ may (next b) v = ltb v b
 
 -- every value that it may have, rising
 unfoldable pub values : Entry → List ℕ
-unfolding keep may from
-values e = keep (may e) (from 256 0)
+unfolding filter may from
+values e = filter (may e) (from 256 0)
 
 -- a row: the output mask and then the next states in place order
 unfoldable pub row : Process → List Entry

@@ -6,7 +6,7 @@ use lib.Dec.{eqb, leb}
 use lib.Bits.{bitAnd}
 use lib.Count.{ones}
 -- bit i of the mask m is set
-unfoldable pub use Rattle.theory.specs.Search.{bit}
+unfoldable pub use Rattle.theory.specs.Masks.{bit}
 
 -- a where the test passes, and otherwise b
 unfoldable pub if : {A : Type 0} → Bool → A → A → A

@@ -1,3 +1,3 @@
 pub mod Partial
-pub mod Asked
+pub mod Needed
 pub mod Says

@@ -7,10 +7,10 @@ use Rattle.model.specs.declared.Verdict.{Verdict}
 use Rattle.model.specs.Sheet.{Sheet, proper, readSheet}
 use Rattle.model.specs.Calls.{findSheet, judgeOf}
 use Rattle.model.specs.Demands.{demand-1, demand-2, demand-3, sizes}
-use Rattle.model.proofs.Refusals.{first-demand}
-use Rattle.model.proofs.Books.{second-demand}
-use Rattle.model.proofs.Found.{third-demand}
-use Rattle.model.proofs.Lengths.{all-sizes}
+use Rattle.model.proofs.DemandOne.{first-demand}
+use Rattle.model.proofs.DemandTwo.{second-demand}
+use Rattle.model.proofs.DemandThree.{third-demand}
+use Rattle.model.proofs.Sizes.{all-sizes}
 
 -- 1: a fault gets exactly its number, and every lent buffer then holds what it held before
 pub exact-refusals : demand-1

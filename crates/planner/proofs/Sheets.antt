@@ -5,7 +5,7 @@ use Prim.Native.Nat.{ℕ}
 use Rattle.model.specs.declared.Refusal.{Refusal}
 use Rattle.model.specs.declared.Reply.{Reply}
 use Rattle.model.specs.Sheet.{refused, proper, readSheet}
-use Rattle.model.proofs.Sheet.{Good, sheet-good}
+use Rattle.model.proofs.ProperSheet.{Good, sheet-good}
 use Rattle.sheet.specs.declared.Reading.{Reading}
 use Rattle.sheet.specs.Struct.{sheetOf, readingOf}
 use Rattle.sheet.proofs.Sheets.{read-refused, read-proper}

@@ -5,7 +5,7 @@ ghost use Rattle.model.specs.Calls.{part as partIn};
 ghost use Rattle.book.specs.Answers.{afterRead, afterPart};
 use book::Part;
 use book::TablesRead;
-use machine::Architecture;
+use composition::Architecture;
 use model::Outcome;
 use model::Reply;
 use model::Verdict;
@@ -30,7 +30,7 @@ pub fn find(sheet: &[u8], book: &mut [u8], annotation: &mut [u16]) -> Outcome
         Reply::Refused(refusal) => Outcome::Refused(refusal),
         Reply::Done => {
             let read = reading.sheet;
-            finding::find_for(read, book, annotation)
+            synthesis::find_for(read, book, annotation)
         }
     }
 }
@@ -67,7 +67,7 @@ pub fn read(sheet: &[u8], book: &[u8]) -> TablesRead
 }
 
 // Where the records of a process are in the book.
-pub fn place(sheet: &[u8], book: &[u8], process: usize) -> Part
+pub fn range(sheet: &[u8], book: &[u8], process: usize) -> Part
     ensures { λ r. ⌜ afterPart r ≡ partOf (now (sheet .entry)) (now (book .entry)) process ⌝ }
 {
     let reading = sheet::read(sheet);
@@ -76,18 +76,18 @@ pub fn place(sheet: &[u8], book: &[u8], process: usize) -> Part
         Reply::Refused(refusal) => book::nowhere(refusal),
         Reply::Done => {
             let read = reading.sheet;
-            book::place_for(Architecture::of(read), book, process)
+            book::range_for(Architecture::of(read), book, process)
         }
     }
 }
 
-// The records of a process: a part of the book itself, empty where it is refused; `place` says why.
+// The records of a process: a part of the book itself, empty where it is refused; `range` says why.
 pub fn part<'a>(sheet: &[u8], book: &'a [u8], process: usize) -> &'a [u8]
     ensures { λ r. ⌜ now r ≡ partIn (partOf (now (sheet .entry)) (now (book .entry)) process) (now (book .entry)) ⌝ }
 {
-    let place = place(sheet, book, process);
-    let start = place.start;
-    let end = place.end;
+    let range = range(sheet, book, process);
+    let start = range.start;
+    let end = range.end;
     &book[start..end]
 }
 
@@ -101,7 +101,7 @@ pub fn judge(sheet: &[u8], book: &[u8], annotation: &[u16]) -> Verdict
         Reply::Refused(refusal) => Verdict::Refused(refusal),
         Reply::Done => {
             let read = reading.sheet;
-            verdict::judge_for(read, book, annotation)
+            judging::judge_for(read, book, annotation)
         }
     }
 }
@@ -117,7 +117,7 @@ pub fn annotate(sheet: &[u8], book: &[u8], annotation: &mut [u16]) -> Verdict
         Reply::Refused(refusal) => Verdict::Refused(refusal),
         Reply::Done => {
             let read = reading.sheet;
-            verdict::annotate_for(read, book, annotation)
+            judging::annotate_for(read, book, annotation)
         }
     }
 }

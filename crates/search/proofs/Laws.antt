@@ -13,15 +13,15 @@ use borrow.Author.Count.{below-more}
 use Rattle.model.specs.Sheet.{Sheet}
 use Rattle.model.specs.Choice.{Entry, entries, may, Fits, done, also, IsChoice}
 use Rattle.model.specs.Computed.{loops, keeps, firstChoice}
-use Rattle.model.proofs.Sheet.{Good}
-use Rattle.model.proofs.Choice.{fits-length}
+use Rattle.model.proofs.ProperSheet.{Good}
+use Rattle.model.proofs.FitsTest.{fits-length}
 use Rattle.model.proofs.Entries.{fits-at, fits-set, before-at, zeros-fit}
-use Rattle.model.proofs.First.{entries-small}
-use Rattle.model.proofs.FirstIs.{none-is, first-is}
+use Rattle.model.proofs.FirstInOrder.{entries-small}
+use Rattle.model.proofs.FirstUnique.{none-is, first-is}
 use Rattle.layout.specs.Codes.{kindOf}
 use Rattle.graph.specs.Filled.{chosen}
 use Rattle.partial.specs.Partial.{Completes}
-use Rattle.partial.specs.Says.{Barren}
+use Rattle.partial.specs.Says.{NoneKeeps}
 use Rattle.partial.proofs.Whole.{choice-byte}
 use Rattle.search.specs.Search.{Ready, opens, NextValue, Kinds, Witness, Begun, Alike, Lowest, Least}
 use Rattle.search.specs.Says.{Found}
@@ -61,11 +61,11 @@ module _ (s : Sheet) (kinds : List ℕ) (K : Kinds s kinds) (k : ℕ) (hk : k < 
   may-set tables v f m = rw (take-set-lt (length (entries s)) tables k v hk) (fits-set f (kindOf 0) k v hk (rw kind-at at m))
 
 -- a list with a value for each entry that the entry may have
-fits-places : (es : List Entry) (c : List ℕ) (e₀ : Entry) → length c ≡ length es → ((i : ℕ) → i < length es → may (getD es i e₀) (getD c i 0) ≡ true) → Fits es c
-fits-places [] [] e₀ l f = done
-fits-places [] (v ∷ c) e₀ l f = absurd (omega arith)
-fits-places (e ∷ es) [] e₀ l f = absurd (omega arith)
-fits-places (e ∷ es) (v ∷ c) e₀ l f = also (f 0 (omega arith)) (fits-places es c e₀ (omega arith) (λ i h. f (suc i) (omega arith)))
+fits-indexes : (es : List Entry) (c : List ℕ) (e₀ : Entry) → length c ≡ length es → ((i : ℕ) → i < length es → may (getD es i e₀) (getD c i 0) ≡ true) → Fits es c
+fits-indexes [] [] e₀ l f = done
+fits-indexes [] (v ∷ c) e₀ l f = absurd (omega arith)
+fits-indexes (e ∷ es) [] e₀ l f = absurd (omega arith)
+fits-indexes (e ∷ es) (v ∷ c) e₀ l f = also (f 0 (omega arith)) (fits-indexes es c e₀ (omega arith) (λ i h. f (suc i) (omega arith)))
 
 -- ---- partial choices
 -- the entries at the front of the tables
@@ -165,7 +165,7 @@ module _ {s : Sheet} {values unset kinds : List ℕ} {k : ℕ} (O : Opened s val
     }
 
   -- every value was tried
-  pub all-tried : Good s → (v : ℕ) → 256 ≤ v → Trying (kindOf (getD kinds k 0)) (λ u. Barren s (set values k u) (set unset k 0)) v → Barren s values unset
+  pub all-tried : Good s → (v : ℕ) → 256 ≤ v → Trying (kindOf (getD kinds k 0)) (λ u. NoneKeeps s (set values k u) (set unset k 0)) v → NoneKeeps s values unset
   all-tried good v h T c C =
       let u = getD c k 0 in
       T .tried u (omega (arith, choice-byte (entries-small s good) (C .is-choice) k)) (may-at s kinds (O .kinds-are) k (O .inside) c (C .is-choice)) c (completes-narrower u c refl C)
@@ -203,7 +203,7 @@ module _ {s : Sheet} {tables values unset : List ℕ} {i : ℕ} (B : Begun (leng
   begun-ready good few front = record {
     values-long = B .values-long;
     unset-long = B .unset-long;
-    choice = fits-places (entries s) (chosen s values) (kindOf 0) (length-take-le (length (entries s)) values (omega (arith, B .values-long))) (λ k h. rw (chosen-at s values k h) (elim (decLt k i) [
+    choice = fits-indexes (entries s) (chosen s values) (kindOf 0) (length-take-le (length (entries s)) values (omega (arith, B .values-long))) (λ k h. rw (chosen-at s values k h) (elim (decLt k i) [
       | yes l ↦ rw (B .settled k l .0) (front k l)
       | no g ↦ rw (B .left k (omega arith) h .0) (rw (getD-replicate {A = ℕ} (length (entries s)) k 0 0 h) at (fits-at (zeros-fit s good) (kindOf 0) k h))
     ]));
@@ -243,8 +243,8 @@ module _ {s : Sheet} {kinds : List ℕ} {i : ℕ} {tables : List ℕ} (S : Settl
     }
 
     module _ (v : ℕ) where
-      pub begun-lost : Barren s (set values i v) (set unset i 0) → Lost s i tables v
-      begun-lost barren c f a e = barren c (completes-narrower begun-opened v c e (begun-completes B c f a))
+      pub begun-lost : NoneKeeps s (set values i v) (set unset i 0) → Lost s i tables v
+      begun-lost none-keeps c f a e = none-keeps c (completes-narrower begun-opened v c e (begun-completes B c f a))
 
       pub begun-found : (new : List ℕ) → Found s (set values i v) (set unset i 0) new → Lower v → Least s i tables new
       begun-found new F T = record { witness = F .witness; same = same; lowest = lowest new v same (omega (arith, is)) T }
@@ -289,7 +289,7 @@ leading-first s tables good P = first-is s good (chosen s tables) record {
       rw (P .lowest (at .0) h d f (λ k g. at .2 k g ∙ chosen-at s tables k (omega arith)) (rw (chosen-at s tables (at .0) h) at (at .3)));
 }
 
-pub nothing-first : (s : Sheet) (tables values unset : List ℕ) → Good s → Begun (length (entries s)) tables 0 values unset → Barren s values unset → firstChoice s ≡ none
+pub nothing-first : (s : Sheet) (tables values unset : List ℕ) → Good s → Begun (length (entries s)) tables 0 values unset → NoneKeeps s values unset → firstChoice s ≡ none
 unfolding keeps
-nothing-first s tables values unset good B barren =
-    none-is s good (λ c f. rw (barren c (begun-completes B c f (λ k h. absurd (omega arith)))))
+nothing-first s tables values unset good B none-keeps =
+    none-is s good (λ c f. rw (none-keeps c (begun-completes B c f (λ k h. absurd (omega arith)))))

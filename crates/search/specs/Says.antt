@@ -9,14 +9,14 @@ use Rattle.model.specs.Choice.{entries}
 use Rattle.model.specs.Computed.{firstChoice}
 use Rattle.graph.specs.Filled.{chosen}
 use Rattle.partial.specs.Partial.{Agrees}
-use Rattle.partial.specs.Says.{Barren}
+use Rattle.partial.specs.Says.{NoneKeeps}
 use Rattle.search.specs.Search.{Witness}
 use Rattle.search.specs.declared.Searched.{Searched}
 use Rattle.search.specs.declared.Searched.the-variants as a
 
 -- every choice that completes the partial one has a rejecting loop, and the partial choice is as it was
 pub record Refuted (s : Sheet) (values unset newValues newUnset : List ℕ) : Type 0 where
-  pub barren : Barren s values unset
+  pub none-keeps : NoneKeeps s values unset
   pub same-values : newValues ≡ values
   pub same-unset : newUnset ≡ unset
 

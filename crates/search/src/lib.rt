@@ -3,15 +3,15 @@ ghost use mathlib.Core.Path.{_≡_};
 ghost use Prim.Native.Nat.{_<_, _≤_};
 ghost use lib.ListN.{length};
 ghost use Rattle.model.specs.Choice.{entries as entriesOf};
-ghost use Rattle.model.proofs.Sheet.{Good};
+ghost use Rattle.model.proofs.ProperSheet.{Good};
 ghost use Rattle.sheet.specs.Struct.{sheetOf};
-ghost use Rattle.machine.specs.Struct.{ArchitectureOf};
+ghost use Rattle.composition.specs.Struct.{ArchitectureOf};
 ghost use Rattle.layout.specs.Codes.{kindOf};
 ghost use Rattle.lookup.specs.Lookup.{Prepared};
 ghost use Rattle.partial.specs.Says.{Work};
 ghost use Rattle.search.specs.Search.{Ready, opens, NextValue, Kinds, Witness, Begun, Least};
 ghost use Rattle.search.specs.Says.{Finds, Leads};
-use machine::Architecture;
+use composition::Architecture;
 use partial::Explored;
 use sheet::Sheet;
 
@@ -43,7 +43,7 @@ pub fn search(
     sheet: Sheet,
     a: Architecture,
     rows: &[u16],
-    places: &[u8],
+    indexes: &[u8],
     met: &[u16],
     kinds: &[u16; 272],
     numbers: &mut [u16; 4096],
@@ -53,7 +53,7 @@ pub fn search(
     steps: &mut [u16; 4096],
 ) -> Searched
     requires { ⌜ Good (sheetOf sheet) ⌝ }
-    requires { ⌜ ArchitectureOf (sheetOf sheet) a × Prepared (sheetOf sheet) a (now rows) (now places) (now met) ⌝ }
+    requires { ⌜ ArchitectureOf (sheetOf sheet) a × Prepared (sheetOf sheet) a (now rows) (now indexes) (now met) ⌝ }
     requires { ⌜ Kinds (sheetOf sheet) (now kinds) ⌝ }
     requires { ⌜ Ready (sheetOf sheet) (now values) (now unset) ⌝ }
     requires { ⌜ opens (now unset) (length (entriesOf (sheetOf sheet))) ≤ left ⌝ }
@@ -70,7 +70,7 @@ pub fn search(
         sheet,
         a,
         rows,
-        places,
+        indexes,
         met,
         values,
         unset,
@@ -78,7 +78,7 @@ pub fn search(
     match explored {
         Explored::Loop => Searched::Nothing,
         Explored::Keeps => Searched::Tables,
-        Explored::Ask(k) => {
+        Explored::Needs(k) => {
             if left == 0 {
                 return Searched::Nothing;
             }
@@ -94,7 +94,7 @@ pub fn search(
                     sheet,
                     a,
                     rows,
-                    places,
+                    indexes,
                     met,
                     kinds,
                     numbers,
@@ -149,7 +149,7 @@ fn settle(
     sheet: Sheet,
     a: Architecture,
     rows: &[u16],
-    places: &[u8],
+    indexes: &[u8],
     met: &[u16],
     kinds: &[u16; 272],
     numbers: &mut [u16; 4096],
@@ -159,7 +159,7 @@ fn settle(
     steps: &mut [u16; 4096],
 )
     requires { ⌜ Good (sheetOf sheet) ⌝ }
-    requires { ⌜ ArchitectureOf (sheetOf sheet) a × Prepared (sheetOf sheet) a (now rows) (now places) (now met) ⌝ }
+    requires { ⌜ ArchitectureOf (sheetOf sheet) a × Prepared (sheetOf sheet) a (now rows) (now indexes) (now met) ⌝ }
     requires { ⌜ Kinds (sheetOf sheet) (now kinds) ⌝ }
     requires { ⌜ (n ≡ length (entriesOf (sheetOf sheet))) × (i < n) ⌝ }
     requires { ⌜ Witness (sheetOf sheet) (now witness) ⌝ }
@@ -181,7 +181,7 @@ fn settle(
             sheet,
             a,
             rows,
-            places,
+            indexes,
             met,
             kinds,
             numbers,
@@ -210,7 +210,7 @@ pub fn first(
     sheet: Sheet,
     a: Architecture,
     rows: &[u16],
-    places: &[u8],
+    indexes: &[u8],
     met: &[u16],
     kinds: &[u16; 272],
     numbers: &mut [u16; 4096],
@@ -220,7 +220,7 @@ pub fn first(
     steps: &mut [u16; 4096],
 ) -> Searched
     requires { ⌜ Good (sheetOf sheet) ⌝ }
-    requires { ⌜ ArchitectureOf (sheetOf sheet) a × Prepared (sheetOf sheet) a (now rows) (now places) (now met) ⌝ }
+    requires { ⌜ ArchitectureOf (sheetOf sheet) a × Prepared (sheetOf sheet) a (now rows) (now indexes) (now met) ⌝ }
     requires { ⌜ Kinds (sheetOf sheet) (now kinds) ⌝ }
     requires { ⌜ n ≡ length (entriesOf (sheetOf sheet)) ⌝ }
     requires { ⌜ length (now witness) ≡ 272 ⌝ }
@@ -235,7 +235,7 @@ pub fn first(
         sheet,
         a,
         rows,
-        places,
+        indexes,
         met,
         kinds,
         numbers,
@@ -260,7 +260,7 @@ pub fn first(
             sheet,
             a,
             rows,
-            places,
+            indexes,
             met,
             kinds,
             numbers,

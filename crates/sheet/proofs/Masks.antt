@@ -13,7 +13,7 @@ use lib.Bits.{bitAnd, bitOr, and-zero-r, or-add-and, and-le-r}
 use borrow.Author.Tests.{ltb-true, ltb-false, le-leb, lt-leb, ne-eqb}
 use Rattle.theory.specs.Lists.{all}
 use Rattle.theory.proofs.BitLaws.{bit-or, and-or}
-use Rattle.theory.proofs.WalkLaws.{empty}
+use Rattle.theory.proofs.DepthFirst.{empty}
 use Rattle.model.specs.Mask.{bit, share, beyond, from}
 use Rattle.model.specs.Sheet.{Process, owned, taken, composedStates}
 use Rattle.sheet.specs.Struct.{allSet, joined, outputsOf}

@@ -3,11 +3,11 @@ pub mod ListLaws
 pub mod Paths
 pub mod Overflow
 pub mod Closed
-pub mod Covering
+pub mod Simulation
 pub mod AnnotationLaws
 pub mod ValidLaws
 pub mod BitLaws
 pub mod SetLaws
-pub mod WalkLaws
+pub mod DepthFirst
 pub mod LoopLaws
-pub mod Same
+pub mod EqualGraphs

@@ -10,11 +10,7 @@ use lib.Dec.{eqb}
 use lib.ListN.{length, getD}
 use borrow.Author.Tests.{eqb-true, eq-eqb}
 use Rattle.theory.proofs.Bools.{and-is}
-use Rattle.theory.specs.Lists.{below, one, put, keep, count, member, tab, greatest, all, same}
-
-pub data Distinct : List ℕ → Type 0 where
-  none : Distinct []
-  one-more : {x : ℕ} {xs : List ℕ} → (List·Memᴰ x xs → ⊥) → Distinct xs → Distinct (x ∷ xs)
+use Rattle.theory.specs.Lists.{Distinct, none, one-more, below, one, put, filter, count, member, tab, greatest, all, same}
 
 abbrev pub Subset : List ℕ → List ℕ → Type 0
 Subset xs ys = (x : ℕ) → List·Memᴰ x xs → List·Memᴰ x ys
@@ -75,14 +71,14 @@ unfolding put one
 put-length true x xs = omega arith
 put-length false x xs = omega arith
 
-pub keep-length : (p : ℕ → Bool) (x : ℕ) (xs : List ℕ) → length (keep p (x ∷ xs)) ≡ one (p x) + length (keep p xs)
-unfolding keep
-keep-length p x xs = put-length (p x) x (keep p xs)
+pub filter-length : (p : ℕ → Bool) (x : ℕ) (xs : List ℕ) → length (filter p (x ∷ xs)) ≡ one (p x) + length (filter p xs)
+unfolding filter
+filter-length p x xs = put-length (p x) x (filter p xs)
 
-pub keep-count : (p : ℕ → Bool) (n : ℕ) → length (keep p (below n)) ≡ count p n
-unfolding keep below count
-keep-count p zero = refl
-keep-count p (suc n) = put-length (p n) n (keep p (below n)) ∙ ap (λ (k : ℕ). one (p n) + k) (keep-count p n)
+pub filter-count : (p : ℕ → Bool) (n : ℕ) → length (filter p (below n)) ≡ count p n
+unfolding filter below count
+filter-count p zero = refl
+filter-count p (suc n) = put-length (p n) n (filter p (below n)) ∙ ap (λ (k : ℕ). one (p n) + k) (filter-count p n)
 
 pub one-le : (b : Bool) → one b ≤ 1
 unfolding one
@@ -94,37 +90,37 @@ unfolding count
 count-le p zero = omega arith
 count-le p (suc n) = omega (arith, one-le (p n), count-le p n)
 
-pub keep-sound : (p : ℕ → Bool) (x : ℕ) (xs : List ℕ) → List·Memᴰ x (keep p xs) → List·Memᴰ x xs × (p x ≡ true)
-unfolding keep
-keep-sound p x [] m = absurd (List·Memᴰ·not-nil m)
-keep-sound p x (y ∷ ys) m = by (p y) refl m (λ i. keep-sound p x ys i)
+pub filter-sound : (p : ℕ → Bool) (x : ℕ) (xs : List ℕ) → List·Memᴰ x (filter p xs) → List·Memᴰ x xs × (p x ≡ true)
+unfolding filter
+filter-sound p x [] m = absurd (List·Memᴰ·not-nil m)
+filter-sound p x (y ∷ ys) m = by (p y) refl m (λ i. filter-sound p x ys i)
   where
-    by : (b : Bool) → p y ≡ b → List·Memᴰ x (put b y (keep p ys)) → (List·Memᴰ x (keep p ys) → List·Memᴰ x ys × (p x ≡ true)) → List·Memᴰ x (y ∷ ys) × (p x ≡ true)
+    by : (b : Bool) → p y ≡ b → List·Memᴰ x (put b y (filter p ys)) → (List·Memᴰ x (filter p ys) → List·Memᴰ x ys × (p x ≡ true)) → List·Memᴰ x (y ∷ ys) × (p x ≡ true)
     by false e i ih = (List·Memᴰ·tail (ih i .0), ih i .1)
     by true e (List·Memᴰ·head q) ih = (List·Memᴰ·head q, ap p q ∙ e)
     by true e (List·Memᴰ·tail i) ih = (List·Memᴰ·tail (ih i .0), ih i .1)
 
-pub keep-complete : (p : ℕ → Bool) (x : ℕ) (xs : List ℕ) → List·Memᴰ x xs → p x ≡ true → List·Memᴰ x (keep p xs)
-unfolding keep put
-keep-complete p x (y ∷ ys) (List·Memᴰ·head q) e = rw (sym (ap p q) ∙ e) (List·Memᴰ·head q)
-keep-complete p x (y ∷ ys) (List·Memᴰ·tail m) e = by (p y) (keep-complete p x ys m e)
+pub filter-complete : (p : ℕ → Bool) (x : ℕ) (xs : List ℕ) → List·Memᴰ x xs → p x ≡ true → List·Memᴰ x (filter p xs)
+unfolding filter put
+filter-complete p x (y ∷ ys) (List·Memᴰ·head q) e = rw (sym (ap p q) ∙ e) (List·Memᴰ·head q)
+filter-complete p x (y ∷ ys) (List·Memᴰ·tail m) e = by (p y) (filter-complete p x ys m e)
   where
-    by : (b : Bool) → List·Memᴰ x (keep p ys) → List·Memᴰ x (put b y (keep p ys))
+    by : (b : Bool) → List·Memᴰ x (filter p ys) → List·Memᴰ x (put b y (filter p ys))
     by true i = List·Memᴰ·tail i
     by false i = i
 
-keep-distinct : (p : ℕ → Bool) {xs : List ℕ} → Distinct xs → Distinct (keep p xs)
-unfolding keep put
-keep-distinct p none = none
-keep-distinct p (one-more {x = x} {xs = xs} new d) = by (p x) (keep-distinct p d)
+filter-distinct : (p : ℕ → Bool) {xs : List ℕ} → Distinct xs → Distinct (filter p xs)
+unfolding filter put
+filter-distinct p none = none
+filter-distinct p (one-more {x = x} {xs = xs} new d) = by (p x) (filter-distinct p d)
   where
-    by : (b : Bool) → Distinct (keep p xs) → Distinct (put b x (keep p xs))
-    by true r = one-more (λ i. new (keep-sound p x xs i .0)) r
+    by : (b : Bool) → Distinct (filter p xs) → Distinct (put b x (filter p xs))
+    by true r = one-more (λ i. new (filter-sound p x xs i .0)) r
     by false r = r
 
 -- of a list without repeats, no more elements pass a test than there are in a list of all that do
-pub few-pass : (p : ℕ → Bool) {xs : List ℕ} (ys : List ℕ) → Distinct xs → ((x : ℕ) → List·Memᴰ x xs → p x ≡ true → List·Memᴰ x ys) → length (keep p xs) ≤ length ys
-few-pass p {xs} ys d h = pigeonhole ys (keep-distinct p d) (λ x i. let s : List·Memᴰ x xs × (p x ≡ true) = keep-sound p x xs i in h x (s .0) (s .1))
+pub few-pass : (p : ℕ → Bool) {xs : List ℕ} (ys : List ℕ) → Distinct xs → ((x : ℕ) → List·Memᴰ x xs → p x ≡ true → List·Memᴰ x ys) → length (filter p xs) ≤ length ys
+few-pass p {xs} ys d h = pigeonhole ys (filter-distinct p d) (λ x i. let s : List·Memᴰ x xs × (p x ≡ true) = filter-sound p x xs i in h x (s .0) (s .1))
 
 pub below-sound : (n x : ℕ) → List·Memᴰ x (below n) → x < n
 unfolding below

@@ -1,4 +1,5 @@
 pub mod Lists
+pub mod Masks
 pub mod Graph
 pub mod Search
 pub mod Annotation

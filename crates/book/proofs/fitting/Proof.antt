@@ -6,7 +6,7 @@ use borrow.Author.Needs.{needs}
 use Rattle.model.specs.Mask.{if}
 use Rattle.model.specs.Choice.{Entry, fits}
 use Rattle.model.specs.Book.{entryFault}
-use Rattle.machine.specs.Struct.{sheetWith}
+use Rattle.composition.specs.Struct.{sheetWith}
 use Rattle.book.specs.Answers.{fittingBy}
 use Rattle.book.proofs.fitting.Statement.{statement}
 use Rattle.book.proofs.fitting.Tie as tie

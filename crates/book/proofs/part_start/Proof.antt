@@ -7,9 +7,9 @@ use lib.ListN.{drop}
 use borrow.Author.Needs.{needs}
 use Rattle.model.specs.Compose.{rowLength}
 use Rattle.model.specs.Book.{recordsLength, partStart}
-use Rattle.machine.specs.Struct.{processesIn, processIn}
-use Rattle.machine.proofs.Structs.{row-few, process-next}
-use Rattle.book.proofs.Places.{part-turn}
+use Rattle.composition.specs.Struct.{processesIn, processIn}
+use Rattle.composition.proofs.Structs.{row-few, process-next}
+use Rattle.book.proofs.Slots.{part-turn}
 use Rattle.book.proofs.part_start.Statement.{statement}
 use Rattle.book.proofs.part_start.Tie as tie
 

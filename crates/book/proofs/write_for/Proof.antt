@@ -9,11 +9,11 @@ use borrow.Author.Needs.{needs}
 use Rattle.model.specs.declared.Refusal.the-variants.{BadEntry, BookBufferTooShort}
 use Rattle.model.specs.Sheet.{refused, proper, refuse_when_else_}
 use Rattle.model.specs.Choice.{Entry, fits}
-use Rattle.model.specs.Book.{Place, filled, bookOf, entryFault}
+use Rattle.model.specs.Book.{Slot, filled, bookOf, entryFault}
 use Rattle.model.specs.Calls.{front, wrote, bookShort}
-use Rattle.model.proofs.Book.{holes, holes-form}
-use Rattle.machine.specs.Struct.{sheetWith}
-use Rattle.layout.specs.Codes.{placesOf}
+use Rattle.model.proofs.BookInverse.{holes, holes-form}
+use Rattle.composition.specs.Struct.{sheetWith}
+use Rattle.layout.specs.Codes.{slotsOf}
 use Rattle.sheet.proofs.Tests.{stop, go}
 use Rattle.book.specs.Answers.{writtenBy}
 use Rattle.book.proofs.write_for.Statement.{statement}
@@ -43,11 +43,11 @@ returns c =
     let e : writtenBy (sheetWith (a .a)) (a .tables .now) (a .book .now) ≡ refused BadEntry = stop _ _ (sym (misfit (c .before)) ∙ c .if1 .taken) in
     rw e (refl, refl)
 
-slice-aggregate-fill-places : tie.Need-slice-aggregate-fill-places
-slice-aggregate-fill-places c = search needs
+slice-aggregate-fill-slots : tie.Need-slice-aggregate-fill-slots
+slice-aggregate-fill-slots c = search needs
 
-fill-places-requires : tie.Need-fill-places-requires
-fill-places-requires c κs = search needs
+fill-slots-requires : tie.Need-fill-slots-requires
+fill-slots-requires c κs = search needs
 
 -- the entries fit: the length of the buffer decides
 fitting : (c : tie.Else1) → let a = c .before .before .before .before .before .before .before .before .args in
@@ -59,7 +59,7 @@ returns-2 : tie.Need-returns-2
 unfolding wrote bookShort
 returns-2 c =
     let a = c .before .before .before .before .before .before .before .before .before .before .before .before .args in
-    let e : writtenBy (sheetWith (a .a)) (a .tables .now) (a .book .now) ≡ refused BookBufferTooShort = fitting (c .before .before .before .before) ∙ stop _ _ (lt-ltb _ _ (rw (c .before .before .fill-places .ensures .0 .0) at (c .if2 .taken))) in
+    let e : writtenBy (sheetWith (a .a)) (a .tables .now) (a .book .now) ≡ refused BookBufferTooShort = fitting (c .before .before .before .before) ∙ stop _ _ (lt-ltb _ _ (rw (c .before .before .fill-slots .ensures .0 .0) at (c .if2 .taken))) in
     rw e (refl, refl)
 
 slice-aggregate-put-bytes : tie.Need-slice-aggregate-put-bytes
@@ -67,9 +67,9 @@ slice-aggregate-put-bytes c = search needs
 
 put-bytes-requires : tie.Need-put-bytes-requires
 put-bytes-requires c κs =
-    let n = c .before .before .before .before .before .fill-places in
+    let n = c .before .before .before .before .before .fill-slots in
     let s = sheetWith (c .before .before .before .before .before .before .before .before .before .before .before .before .before .before .before .args .a) in
-    let few : holes (placesOf (n .last .0) (n .result)) ≤ 272 = omega (arith, ap holes (n .ensures .1), holes-form s, c .before .before .before .before .before .before .before .before .before .before .before .before .fill-kinds .ensures .0 .0, c .before .before .before .before .before .before .before .before .before .before .before .before .fill-kinds .ensures .0 .1) in
+    let few : holes (slotsOf (n .last .0) (n .result)) ≤ 272 = omega (arith, ap holes (n .ensures .1), holes-form s, c .before .before .before .before .before .before .before .before .before .before .before .before .fill-kinds .ensures .0 .0, c .before .before .before .before .before .before .before .before .before .before .before .before .fill-kinds .ensures .0 .1) in
     ((omega (arith, n .kept .0, n .ensures .0 .1), c .before .before .before .if2 .left), (omega (arith, few, c .before .before .before .before .before .before .before .before .before .before .before .before .before .before .before .good), omega (arith, c .before .before .before .before .before .before .before .before .before .before .before .before .before .before .before .good)))
 
 same-length : tie.Need-same-length
@@ -80,9 +80,9 @@ unfolding wrote bookShort bookOf
 returns-3 c =
     let a = c .before .before .before .before .before .before .before .before .before .before .before .before .before .before .before .before .before .before .args in
     let s = sheetWith (a .a) in
-    let n = c .before .before .before .before .before .before .before .before .fill-places in
+    let n = c .before .before .before .before .before .before .before .before .fill-slots in
     let e : writtenBy s (a .tables .now) (a .book .now) ≡ proper (bookOf s (a .tables .now)) = fitting (c .before .before .before .before .before .before .before .before .before .before) ∙ go _ _ (le-ltb _ _ (rw (n .ensures .0 .0) at (c .before .before .before .before .before .before .if2 .left))) in
-    rw e (refl, c .before .before .put-bytes .ensures ∙ ap (λ (ps : List Place). front (filled ps (a .tables .now)) (a .book .now)) (n .ensures .1))
+    rw e (refl, c .before .before .put-bytes .ensures ∙ ap (λ (ps : List Slot). front (filled ps (a .tables .now)) (a .book .now)) (n .ensures .1))
 
 pub write-for-spec : {M : Type 1} → statement M
 write-for-spec =
@@ -93,8 +93,8 @@ write-for-spec =
     slice-aggregate-is-misfit
     is-misfit-requires
     returns
-    slice-aggregate-fill-places
-    fill-places-requires
+    slice-aggregate-fill-slots
+    fill-slots-requires
     returns-2
     slice-aggregate-put-bytes
     put-bytes-requires

@@ -1,7 +1,7 @@
 -- `draw::draw_book` is safe: the architecture of a proper sheet is in order. Assumes nothing.
 use borrow.Author.Needs.{needs}
-use Rattle.machine.specs.Struct.{Sized}
-use Rattle.machine.proofs.Sheets.{sized}
+use Rattle.composition.specs.Struct.{Sized}
+use Rattle.composition.proofs.Sheets.{sized}
 use Rattle.draw.proofs.draw_book.Statement.{statement}
 use Rattle.draw.proofs.draw_book.Tie as tie
 

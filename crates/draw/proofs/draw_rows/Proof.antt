@@ -6,10 +6,10 @@ use native.Mathlib.Omega.{arith}
 use lib.ListN.{length, getD, length-take, length-drop}
 use borrow.Author.Needs.{needs}
 use Rattle.model.specs.Compose.{rowAt}
-use Rattle.machine.specs.declared.Architecture.{Architecture}
-use Rattle.machine.specs.Struct.{Sized, processIn, firstIn, entriesOf}
-use Rattle.machine.proofs.Structs.{row-is, row-pos}
-use Rattle.report.proofs.Rows.{row-within}
+use Rattle.composition.specs.declared.Architecture.{Architecture}
+use Rattle.composition.specs.Struct.{Sized, processIn, firstIn, entriesOf}
+use Rattle.composition.proofs.Structs.{row-is, row-pos}
+use Rattle.text.proofs.Rows.{row-within}
 use Rattle.draw.proofs.draw_rows.Statement.{statement}
 use Rattle.draw.proofs.draw_rows.Tie as tie
 

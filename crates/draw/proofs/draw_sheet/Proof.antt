@@ -1,6 +1,6 @@
 -- `draw::draw_sheet` is safe: a sheet that is read without a refusal is in order. Assumes nothing.
 use borrow.Author.Needs.{needs}
-use Rattle.model.proofs.Sheet.{sheet-good}
+use Rattle.model.proofs.ProperSheet.{sheet-good}
 use Rattle.sheet.proofs.Sheets.{read-proper}
 use Rattle.draw.proofs.draw_sheet.Statement.{statement}
 use Rattle.draw.proofs.draw_sheet.Tie as tie

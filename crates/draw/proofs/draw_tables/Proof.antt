@@ -3,8 +3,8 @@ use mathlib.Core.Path.{_≡_}
 use Prim.Native.Nat.{_-_}
 use native.Mathlib.Omega.{arith}
 use borrow.Author.Needs.{needs}
-use Rattle.machine.specs.Struct.{Sized}
-use Rattle.machine.proofs.Structs.{entries-are, start-few}
+use Rattle.composition.specs.Struct.{Sized}
+use Rattle.composition.proofs.Structs.{entries-are, start-few}
 use Rattle.draw.proofs.draw_tables.Statement.{statement}
 use Rattle.draw.proofs.draw_tables.Tie as tie
 

@@ -11,8 +11,8 @@ use Rattle.export.specs.After.{partBy}
 use Rattle.export.proofs.soclethyme_part.Statement.{statement}
 use Rattle.export.proofs.soclethyme_part.Tie as tie
 
-place-requires : tie.Need-place-requires
-place-requires c κs = search needs
+range-requires : tie.Need-range-requires
+range-requires c κs = search needs
 
 enum-known-answer : tie.Need-enum-known-answer
 enum-known-answer c = search needs
@@ -24,8 +24,8 @@ enum-told : tie.Need-enum-told
 enum-told c = search needs
 
 -- where the part is
-inside : (c : tie.After-place) → Within (afterPart (c .place .result)) (c .before .before .before .args .book .now)
-inside c = let a = c .before .before .before .args in rw (c .place .ensures) (part-within (a .sheet .now) (a .book .now) (a .process))
+inside : (c : tie.After-range) → Within (afterPart (c .range .result)) (c .before .before .before .args .book .now)
+inside c = let a = c .before .before .before .args in rw (c .range .ensures) (part-within (a .sheet .now) (a .book .now) (a .process))
 
 cast-result : tie.Need-cast-result
 cast-result c = omega (arith, inside (c .before .before .before) .short)
@@ -43,21 +43,21 @@ returns : tie.Need-returns
 unfolding partBy
 returns c =
     let a = c .before .before .before .before .before .before .before .args in
-    let e : partOf (a .sheet .now) (a .book .now) (a .process) .answer ≡ Reply.Refused (c .before .before .answer .given .0 .0) = sym (ap (λ (x : AfterPart). x .answer) (c .before .before .before .before .place .ensures)) ∙ c .before .before .answer .given .1 in
+    let e : partOf (a .sheet .now) (a .book .now) (a .process) .answer ≡ Reply.Refused (c .before .before .answer .given .0 .0) = sym (ap (λ (x : AfterPart). x .answer) (c .before .before .before .before .range .ensures)) ∙ c .before .before .answer .given .1 in
     rw e (c .number .ensures)
 
 returns-2 : tie.Need-returns-2
 unfolding partBy
 returns-2 c =
     let a = c .before .before .before .before .before .before .before .args in
-    let e : partOf (a .sheet .now) (a .book .now) (a .process) .answer ≡ Reply.Done = sym (ap (λ (x : AfterPart). x .answer) (c .before .before .before .before .place .ensures)) ∙ c .before .before .enum-told .given .1 in
-    rw e (ap (λ (x : AfterPart). x .end * 65536 + x .start) (c .before .before .before .before .place .ensures))
+    let e : partOf (a .sheet .now) (a .book .now) (a .process) .answer ≡ Reply.Done = sym (ap (λ (x : AfterPart). x .answer) (c .before .before .before .before .range .ensures)) ∙ c .before .before .enum-told .given .1 in
+    rw e (ap (λ (x : AfterPart). x .end * 65536 + x .start) (c .before .before .before .before .range .ensures))
 
 pub soclethyme-part-spec : {M : Type 1} → statement M
 soclethyme-part-spec =
     tie.close
     (tie.spec
-    place-requires
+    range-requires
     enum-known-answer
     number-requires
     enum-told

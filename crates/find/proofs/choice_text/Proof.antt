@@ -3,10 +3,10 @@ use mathlib.Core.Path.{subst}
 use native.Mathlib.Omega.{arith}
 use borrow.Author.Needs.{needs}
 use Rattle.sheet.specs.Struct.{sheetOf}
-use Rattle.machine.specs.Struct.{Sized}
-use Rattle.machine.proofs.Sheets.{sized}
+use Rattle.composition.specs.Struct.{Sized}
+use Rattle.composition.proofs.Sheets.{sized}
 use Rattle.graph.proofs.Whole.{vertices-few}
-use Rattle.report.specs.Puts.{Holds}
+use Rattle.text.specs.Puts.{Holds}
 use Rattle.find.proofs.Found.{Chose, chose, book-whole, annotation-ends, annotation-counted, are-choice, text-is}
 use Rattle.find.proofs.choice_text.Statement.{statement}
 use Rattle.find.proofs.choice_text.Tie as tie
@@ -22,14 +22,14 @@ whole c = sized _ _ (c .of .ensures) (c .before .before .before .pre .0)
 left : (c : tie.After-of) → Chose (sheetOf (c .before .before .before .args .sheet)) (c .before .before .before .args .book .now) (c .before .before .before .args .annotation .now)
 left c = chose _ _ _ _ _ (c .before .before .before .pre .0) (c .before .before .before .pre .1 .1)
 
-slice-aggregate-fill-places : tie.Need-slice-aggregate-fill-places
-slice-aggregate-fill-places c = search needs
+slice-aggregate-fill-slots : tie.Need-slice-aggregate-fill-slots
+slice-aggregate-fill-slots c = search needs
 
-fill-places-requires : tie.Need-fill-places-requires
-fill-places-requires c κs = (whole (c .before), omega arith)
+fill-slots-requires : tie.Need-fill-slots-requires
+fill-slots-requires c κs = (whole (c .before), omega arith)
 
 slice-aggregate-read-for : tie.Need-slice-aggregate-read-for
-slice-aggregate-read-for c = book-whole _ _ (c .before .before .before .before .of .ensures) _ _ (left (c .before .before .before .before)) _ (c .before .before .fill-places .ensures .0 .0)
+slice-aggregate-read-for c = book-whole _ _ (c .before .before .before .before .of .ensures) _ _ (left (c .before .before .before .before)) _ (c .before .before .fill-slots .ensures .0 .0)
 
 read-for-requires : tie.Need-read-for-requires
 read-for-requires c κs = whole (c .before .before .before .before)
@@ -53,7 +53,7 @@ slice-aggregate-tables-text c =
 
 tables-text-requires : tie.Need-tables-text-requires
 tables-text-requires c κs =
-    (whole (c .before .before .before .before .before .before .before .before .before .before .before), are-choice _ _ (c .before .before .before .before .before .before .before .before .before .before .before .of .ensures) _ _ (left (c .before .before .before .before .before .before .before .before .before .before .before)) _ (c .before .before .before .before .before .before .before .before .before .fill-places .ensures .0 .0) (c .before .before .before .before .before .before .read-for .result) (c .before .before .before .before .before .before .read-for .ensures))
+    (whole (c .before .before .before .before .before .before .before .before .before .before .before), are-choice _ _ (c .before .before .before .before .before .before .before .before .before .before .before .of .ensures) _ _ (left (c .before .before .before .before .before .before .before .before .before .before .before)) _ (c .before .before .before .before .before .before .before .before .before .fill-slots .ensures .0 .0) (c .before .before .before .before .before .before .read-for .result) (c .before .before .before .before .before .before .read-for .ensures))
 
 returns : tie.Need-returns
 unfolding sheetOf
@@ -61,7 +61,7 @@ returns c =
     let is = c .before .before .before .before .before .before .before .before .before .before .before .before .of .ensures in
     let l = left (c .before .before .before .before .before .before .before .before .before .before .before .before) in
     subst (Holds (c .tables-text .last .0) (c .tables-text .result))
-    (text-is _ _ is _ _ l _ (c .before .before .before .before .before .before .before .before .before .before .fill-places .ensures .0 .0) (c .before .before .before .before .before .before .before .read-for .result) (c .before .before .before .before .before .before .before .read-for .ensures) _ (annotation-ends _ _ is _ _ l (c .before .before .before .before .composed-states .result) (c .before .before .before .before .composed-states .ensures)))
+    (text-is _ _ is _ _ l _ (c .before .before .before .before .before .before .before .before .before .before .fill-slots .ensures .0 .0) (c .before .before .before .before .before .before .before .read-for .result) (c .before .before .before .before .before .before .before .read-for .ensures) _ (annotation-ends _ _ is _ _ l (c .before .before .before .before .composed-states .result) (c .before .before .before .before .composed-states .ensures)))
     (c .tables-text .ensures)
 
 pub choice-text-spec : {M : Type 1} → statement M
@@ -69,8 +69,8 @@ choice-text-spec =
     tie.close
     (tie.spec
     of-requires
-    slice-aggregate-fill-places
-    fill-places-requires
+    slice-aggregate-fill-slots
+    fill-slots-requires
     slice-aggregate-read-for
     read-for-requires
     cast-vertices

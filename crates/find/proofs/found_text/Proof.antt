@@ -1,6 +1,6 @@
 -- `find::found_text` meets its contract: find read a proper sheet. Assumes nothing.
 use borrow.Author.Needs.{needs}
-use Rattle.model.proofs.Sheet.{sheet-good}
+use Rattle.model.proofs.ProperSheet.{sheet-good}
 use Rattle.sheet.specs.Struct.{sheetOf}
 use Rattle.find.specs.Printed.{sheetText, printed, book₀, annotation₀}
 use Rattle.find.proofs.Found.{Proper, found-proper}

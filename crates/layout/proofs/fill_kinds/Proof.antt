@@ -6,9 +6,9 @@ use native.Mathlib.Omega.{arith}
 use lib.ListN.{take, drop}
 use Rattle.model.specs.Sheet.{Process}
 use Rattle.model.specs.Choice.{rows, entries}
-use Rattle.machine.specs.declared.Architecture.{Architecture}
-use Rattle.machine.specs.Struct.{processesIn, processIn, sheetWith}
-use Rattle.machine.proofs.Structs.{process-next, processes-end}
+use Rattle.composition.specs.declared.Architecture.{Architecture}
+use Rattle.composition.specs.Struct.{processesIn, processIn, sheetWith}
+use Rattle.composition.proofs.Structs.{process-next, processes-end}
 use Rattle.layout.specs.Codes.{kindOf, kindCode}
 use Rattle.layout.proofs.Words.{Filling, filling-none, filling-more, kinds-turn, kinds-back, put-length}
 use Rattle.layout.proofs.fill_kinds.Statement.{statement}

@@ -13,11 +13,11 @@ array-read-due c = search needs
 due-requires : tie.Need-due-requires
 due-requires c κs = search needs
 
-mul-places : tie.Need-mul-places
-mul-places c = search needs
+mul-slots : tie.Need-mul-slots
+mul-slots c = search needs
 
-slice-write-places : tie.Need-slice-write-places
-slice-write-places c = search needs
+slice-write-slots : tie.Need-slice-write-slots
+slice-write-slots c = search needs
 
 array-read-due-2 : tie.Need-array-read-due-2
 array-read-due-2 c = search needs
@@ -25,38 +25,38 @@ array-read-due-2 c = search needs
 due-requires-2 : tie.Need-due-requires-2
 due-requires-2 c κs = search needs
 
-add-places : tie.Need-add-places
-add-places c = search needs
+add-slots : tie.Need-add-slots
+add-slots c = search needs
 
-mul-places-2 : tie.Need-mul-places-2
-mul-places-2 c = search needs
+mul-slots-2 : tie.Need-mul-slots-2
+mul-slots-2 c = search needs
 
-slice-write-places-2 : tie.Need-slice-write-places-2
-slice-write-places-2 c = simp length-set (omega arith)
+slice-write-slots-2 : tie.Need-slice-write-slots-2
+slice-write-slots-2 c = simp length-set (omega arith)
 
 due-number-requires : tie.Need-due-number-requires
 due-number-requires c κs = search needs
 
-add-places-2 : tie.Need-add-places-2
-add-places-2 c = search needs
+add-slots-2 : tie.Need-add-slots-2
+add-slots-2 c = search needs
 
-mul-places-3 : tie.Need-mul-places-3
-mul-places-3 c = search needs
+mul-slots-3 : tie.Need-mul-slots-3
+mul-slots-3 c = search needs
 
-slice-write-places-3 : tie.Need-slice-write-places-3
-slice-write-places-3 c = simp length-set (omega arith)
+slice-write-slots-3 : tie.Need-slice-write-slots-3
+slice-write-slots-3 c = simp length-set (omega arith)
 
 due-number-requires-2 : tie.Need-due-number-requires-2
 due-number-requires-2 c κs = search needs
 
-add-places-3 : tie.Need-add-places-3
-add-places-3 c = search needs
+add-slots-3 : tie.Need-add-slots-3
+add-slots-3 c = search needs
 
-mul-places-4 : tie.Need-mul-places-4
-mul-places-4 c = search needs
+mul-slots-4 : tie.Need-mul-slots-4
+mul-slots-4 c = search needs
 
-slice-write-places-4 : tie.Need-slice-write-places-4
-slice-write-places-4 c = simp length-set (omega arith)
+slice-write-slots-4 : tie.Need-slice-write-slots-4
+slice-write-slots-4 c = simp length-set (omega arith)
 
 add-fill : tie.Need-add-fill
 add-fill c = search needs
@@ -70,7 +70,7 @@ same-length c = c .before .before .fill .kept .0 ∙ simp length-set
 returns : tie.Need-returns
 returns c =
     let a = c .before .before .before .before .before .before .before .before .before .args in
-    let l = a .places .now in
+    let l = a .slots .now in
     rw (← c .before .before .before .before .before .before .before .due .ensures, ← c .before .before .before .before .before .before .due2 .ensures, ← c .before .before .before .before .before .due-number .ensures, ← c .before .before .before .before .due-number2 .ensures)
     (put-four l (a .at) (a .row) (c .before .before .before .before .before .before .before .due .result) (c .before .before .before .before .before .before .due2 .result) (c .before .before .before .before .before .due-number .result) (c .before .before .before .before .due-number2 .result) 0 (omega arith) (c .before .before .fill .ensures))
 
@@ -80,21 +80,21 @@ put-record-spec =
     (tie.spec
     array-read-due
     due-requires
-    mul-places
-    slice-write-places
+    mul-slots
+    slice-write-slots
     array-read-due-2
     due-requires-2
-    add-places
-    mul-places-2
-    slice-write-places-2
+    add-slots
+    mul-slots-2
+    slice-write-slots-2
     due-number-requires
-    add-places-2
-    mul-places-3
-    slice-write-places-3
+    add-slots-2
+    mul-slots-3
+    slice-write-slots-3
     due-number-requires-2
-    add-places-3
-    mul-places-4
-    slice-write-places-4
+    add-slots-3
+    mul-slots-4
+    slice-write-slots-4
     add-fill
     fill-requires
     same-length

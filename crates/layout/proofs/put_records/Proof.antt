@@ -9,18 +9,18 @@ use borrow.Author.Needs.{needs}
 use Rattle.model.specs.Sheet.{Process}
 use Rattle.model.specs.Compose.{rowLength}
 use Rattle.model.specs.Book.{records, recordsLength}
-use Rattle.machine.specs.Struct.{processIn}
-use Rattle.machine.proofs.Structs.{row-few}
-use Rattle.layout.specs.Codes.{placeCode}
+use Rattle.composition.specs.Struct.{processIn}
+use Rattle.composition.proofs.Structs.{row-few}
+use Rattle.layout.specs.Codes.{slotCode}
 use Rattle.layout.proofs.Words.{put-turn, records-turn, turn-fits, one-turn}
 use Rattle.layout.proofs.put_records.Statement.{statement}
 use Rattle.layout.proofs.put_records.Tie as tie
 
 abbrev Inv-loop : tie.InvT-loop
-Inv-loop places₀ start i row bound at₀ x₀ places at x = (x ≤ bound) × ((at ≡ start + x * (4 + row)) × ((length places ≡ length places₀) × ((p : Process) → rowLength p ≡ row → take at places ++ map placeCode (records i p (bound - x) x) ≡ take start places₀ ++ map placeCode (records i p bound 0))))
+Inv-loop slots₀ start i row bound at₀ x₀ slots at x = (x ≤ bound) × ((at ≡ start + x * (4 + row)) × ((length slots ≡ length slots₀) × ((p : Process) → rowLength p ≡ row → take at slots ++ map slotCode (records i p (bound - x) x) ≡ take start slots₀ ++ map slotCode (records i p bound 0))))
 
 abbrev μ-loop : tie.MeasureT-loop
-μ-loop places₀ start i row bound at₀ x₀ places at x = bound - x
+μ-loop slots₀ start i row bound at₀ x₀ slots at x = bound - x
 
 inputs-of-requires : tie.Need-inputs-of-requires Inv-loop μ-loop
 inputs-of-requires c κs = (c .before .pre .0, c .before .pre .1 .0)
@@ -83,8 +83,8 @@ loop-again c =
         (
           c .before .before .put-record .kept .0 ∙ l .inv .1 .1 .0,
           λ p e.
-              put-turn (map placeCode (records (a .i) p (bound - (l .x + 1)) (l .x + 1))) (c .before .before .put-record .ensures)
-              ∙ ap (λ (xs : List ℕ). take (l .at) (l .places) ++ xs) (sym (rw e at (records-turn (a .i) p bound (l .x) (c .before .before .before .before .loop-test .taken))))
+              put-turn (map slotCode (records (a .i) p (bound - (l .x + 1)) (l .x + 1))) (c .before .before .put-record .ensures)
+              ∙ ap (λ (xs : List ℕ). take (l .at) (l .slots) ++ xs) (sym (rw e at (records-turn (a .i) p bound (l .x) (c .before .before .before .before .loop-test .taken))))
               ∙ l .inv .1 .1 .1 p e,
         ),
       ),
@@ -109,7 +109,7 @@ returns c =
         l .inv .1 .0 ∙ ap (λ (m : ℕ). a .start + m) size,
         omega (arith, l .inv .1 .0, mul-le-mul {n₁ = l .x} {m₁ = 4 + row} {n₂ = 4} {m₂ = 21} (omega (arith, n .1)) (omega (arith, n .0))),
       ),
-      record { is = sym (append-nil (take (l .at) (l .places))) ∙ rw (c .before .before .bound-of .ensures) at (rw none at (l .inv .1 .1 .1 p (sym (row-is (c .before .before))))) },
+      record { is = sym (append-nil (take (l .at) (l .slots))) ∙ rw (c .before .before .bound-of .ensures) at (rw none at (l .inv .1 .1 .1 p (sym (row-is (c .before .before))))) },
     )
 
 pub put-records-spec : {M : Type 1} → statement M

@@ -9,8 +9,8 @@ use borrow.Author.Needs.{needs}
 use Rattle.model.specs.Sheet.{Process}
 use Rattle.model.specs.Compose.{rowLength}
 use Rattle.model.specs.Choice.{row, times}
-use Rattle.machine.specs.Struct.{processIn}
-use Rattle.machine.proofs.Structs.{row-few}
+use Rattle.composition.specs.Struct.{processIn}
+use Rattle.composition.proofs.Structs.{row-few}
 use Rattle.layout.specs.Codes.{kindCode}
 use Rattle.layout.proofs.Words.{put-turn, rows-turn, row-words, turn-fits, one-turn}
 use Rattle.layout.proofs.put_rows.Statement.{statement}

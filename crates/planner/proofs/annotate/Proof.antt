@@ -3,7 +3,7 @@ use mathlib.Core.Path.{refl}
 use borrow.Author.Needs.{needs}
 use Rattle.model.specs.Sheet.{_then_}
 use Rattle.model.specs.Calls.{bookAndRoom, annotated, annotateOf}
-use Rattle.verdict.proofs.Read.{book-by}
+use Rattle.judging.proofs.Read.{book-by}
 use Rattle.planner.proofs.Sheets.{refusal-is, sheet-is, good-is}
 use Rattle.planner.proofs.annotate.Statement.{statement}
 use Rattle.planner.proofs.annotate.Tie as tie

@@ -2,7 +2,7 @@
 use borrow.Author.Needs.{needs}
 use Rattle.model.specs.Sheet.{_then_}
 use Rattle.model.specs.Calls.{bookAndRoom, judged, judgeOf}
-use Rattle.verdict.proofs.Read.{book-by}
+use Rattle.judging.proofs.Read.{book-by}
 use Rattle.planner.proofs.Sheets.{refusal-is, sheet-is, good-is}
 use Rattle.planner.proofs.judge.Statement.{statement}
 use Rattle.planner.proofs.judge.Tie as tie

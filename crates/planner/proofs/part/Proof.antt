@@ -7,12 +7,12 @@ use Rattle.book.proofs.Bounds.{Within, part-within}
 use Rattle.planner.proofs.part.Statement.{statement}
 use Rattle.planner.proofs.part.Tie as tie
 
-place-requires : tie.Need-place-requires
-place-requires c κs = search needs
+range-requires : tie.Need-range-requires
+range-requires c κs = search needs
 
 -- where the part is, within the book
-inside : (c : tie.After-place) → Within (afterPart (c .place .result)) (c .before .before .before .args .book .now)
-inside c = let a = c .before .before .before .args in rw (c .place .ensures) (part-within (a .sheet .now) (a .book .now) (a .process))
+inside : (c : tie.After-range) → Within (afterPart (c .range .result)) (c .before .before .before .args .book .now)
+inside c = let a = c .before .before .before .args in rw (c .range .ensures) (part-within (a .sheet .now) (a .book .now) (a .process))
 
 sub-result : tie.Need-sub-result
 sub-result c = inside c .rising
@@ -25,8 +25,8 @@ part-result-end c = inside c .inside
 
 returns : tie.Need-returns
 unfolding part
-returns c = ap (λ (p : AfterPart). part p (c .before .before .before .before .args .book .now)) (c .before .place .ensures)
+returns c = ap (λ (p : AfterPart). part p (c .before .before .before .before .args .book .now)) (c .before .range .ensures)
 
 pub part-spec : {M : Type 1} → statement M
 part-spec =
-    tie.close (tie.spec place-requires sub-result part-result-start part-result-end returns)
+    tie.close (tie.spec range-requires sub-result part-result-start part-result-end returns)

@@ -3,7 +3,7 @@ use mathlib.Core.Path.{ap, _∙_}
 use borrow.Author.Needs.{needs}
 use Rattle.model.specs.Sheet.{_then_}
 use Rattle.model.specs.Calls.{gave, readOf}
-use Rattle.machine.proofs.Sheets.{sized}
+use Rattle.composition.proofs.Sheets.{sized}
 use Rattle.book.proofs.Same.{same-book}
 use Rattle.planner.proofs.Sheets.{refusal-is, sheet-is, good-is}
 use Rattle.planner.proofs.read.Statement.{statement}

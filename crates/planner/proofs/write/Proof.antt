@@ -3,7 +3,7 @@ use mathlib.Core.Path.{_≡_, refl, sym, _∙_}
 use borrow.Author.Needs.{needs}
 use Rattle.model.specs.Sheet.{_then_}
 use Rattle.model.specs.Calls.{wrote, written, writeOf}
-use Rattle.machine.proofs.Sheets.{sized}
+use Rattle.composition.proofs.Sheets.{sized}
 use Rattle.book.proofs.Same.{same-written, written-by}
 use Rattle.planner.proofs.Sheets.{refusal-is, sheet-is, good-is}
 use Rattle.planner.proofs.write.Statement.{statement}

@@ -1,4 +1,4 @@
--- `search::search` meets its contract. Its measure is `left`, the count of entries still open. The loop's invariant: with each lower value at k the partial choice is barren, and but for k, which is settled, it is that of the entry.
+-- `search::search` meets its contract. Its measure is `left`, the count of entries still open. The loop's invariant: with each lower value at k the partial choice is none-keeps, and but for k, which is settled, it is that of the entry.
 use mathlib.Core.Path.{_≡_, refl, sym, ap, subst, subst₂, subst₃, _∙_}
 use mathlib.Core.Bool.{true}
 use mathlib.Core.List.{List}
@@ -13,7 +13,7 @@ use Rattle.model.specs.Sheet.{Sheet}
 use Rattle.model.specs.Choice.{may, entries}
 use Rattle.sheet.specs.Struct.{sheetOf}
 use Rattle.layout.specs.Codes.{kindOf}
-use Rattle.partial.specs.Says.{Barren, ExploredSays, Work}
+use Rattle.partial.specs.Says.{NoneKeeps, ExploredSays, Work}
 use Rattle.search.specs.Search.{Kinds, Ready, opens}
 use Rattle.search.specs.Says.{Finds}
 use Rattle.partial.specs.declared.Explored.{Explored}
@@ -37,22 +37,22 @@ abbrev search-below : ℕ → In 11 search-kinds.ps
 search-below t = and 11 search-kinds.ps (falls 11 search-kinds.ps _<_ μ-search t) search′.Pre
 
 abbrev search-Inv-loop : search-lts.InvT-loop
-search-Inv-loop values₀ unset₀ left sheet a rows places met kinds numbers₀ stack₀ waiting₀ targets₀ steps₀ k kind v₀ values unset numbers stack waiting targets steps v =
-    Trying (kindOf kind) (λ u. Barren (sheetOf sheet) (set values₀ k u) unset₀) v × (set values k 0 ≡ values₀) × (unset ≡ unset₀) × Work numbers stack waiting targets steps
+search-Inv-loop values₀ unset₀ left sheet a rows indexes met kinds numbers₀ stack₀ waiting₀ targets₀ steps₀ k kind v₀ values unset numbers stack waiting targets steps v =
+    Trying (kindOf kind) (λ u. NoneKeeps (sheetOf sheet) (set values₀ k u) unset₀) v × (set values k 0 ≡ values₀) × (unset ≡ unset₀) × Work numbers stack waiting targets steps
 
 abbrev search-μ-loop : search-lts.MeasureT-loop
-search-μ-loop values₀ unset₀ left sheet a rows places met kinds numbers₀ stack₀ waiting₀ targets₀ steps₀ k kind v₀ values unset numbers stack waiting targets steps v =
+search-μ-loop values₀ unset₀ left sheet a rows indexes met kinds numbers₀ stack₀ waiting₀ targets₀ steps₀ k kind v₀ values unset numbers stack waiting targets steps v =
     256 - v
 
 abbrev claims : ℕ → search-lts.Claims
 claims t = (explore-reads.Asked, explore-reads.Learnt, next-value-reads.Asked, next-value-reads.Learnt, search-below t, search′.Post)
 
 module _ (t : ℕ) where
-  -- a need, or a place of the code
+  -- a need, or a index of the code
   abbrev Of : (search-lts.Claims → In 11 search-kinds.ps → Out 11 search-kinds.ps search-kinds.r → search-lts.InvT-loop → search-lts.MeasureT-loop → Type 0) → Type 0
   Of N = N (claims t) (search-at t) search′.Post search-Inv-loop search-μ-loop
 
-  -- ---- places
+  -- ---- indexes
   abbrev Started : Type 0
   Started = Of search-lts.Start
 
@@ -79,17 +79,17 @@ module _ (t : ℕ) where
   said : (e : Explore) (r : Explored) → e .explore .result ≡ r → ExploredSays (s (exploring e)) (exploring e .args .values .now) (exploring e .args .unset .now) r
   said e r is = let b = exploring e in subst (λ (r : Explored). ExploredSays (s b) (b .args .values .now) (b .args .unset .now) r) is (e .explore .ensures .0)
 
-  -- it asked for k
-  abbrev Asking : Type 0
-  Asking = Of search-lts.After-explored
+  -- it needed k
+  abbrev Need : Type 0
+  Need = Of search-lts.After-explored
 
-  abbrev started : Asking → Started
+  abbrev started : Need → Started
   started a = exploring (a .before .before)
 
-  abbrev k : Asking → ℕ
+  abbrev k : Need → ℕ
   k a = a .explored .given .0 .0
 
-  opened : (a : Asking) → Opened (s (started a)) (started a .args .values .now) (started a .args .unset .now) (started a .args .kinds .now) (k a)
+  opened : (a : Need) → Opened (s (started a)) (started a .args .values .now) (started a .args .unset .now) (started a .args .kinds .now) (k a)
   opened a =
       let b = started a in
       let says = said (a .before .before) _ (a .explored .given .1) in
@@ -99,7 +99,7 @@ module _ (t : ℕ) where
   abbrev Looping : Type 0
   Looping = Of search-lts.At-loop
 
-  abbrev asking : Looping → Asking
+  abbrev asking : Looping → Need
   asking l = l .before .before .before .before .before
 
   narrowed : (l : Looping) → set (l .loop .values) (k (asking l)) (l .loop .v) ≡ set (started (asking l) .args .values .now) (k (asking l)) (l .loop .v)
@@ -202,7 +202,7 @@ module _ (t : ℕ) where
       let l = looping f in
       let a = asking l in
       let r = told f _ (c .before .enum-told4 .given .1) in (
-        trying-more _ _ _ _ (c .next-value2 .ensures) (l .loop .inv .0) (r .barren),
+        trying-more _ _ _ _ (c .next-value2 .ensures) (l .loop .inv .0) (r .none-keeps),
         ap (λ (x : List ℕ). set x (k a) 0) (r .same-values) ∙ set-set (started a .args .values .now) (k a) (l .loop .v) 0 ∙ values-back (opened a),
         r .same-unset,
         f .search .ensures .1,
@@ -217,7 +217,7 @@ module _ (t : ℕ) where
   search-returns-3 : Of search-lts.Need-returns-3
   search-returns-3 c =
       let e = c .before .before in
-      (record { barren = said e _ (c .enum-told .given .1); same-values = refl; same-unset = refl }, e .explore .ensures .1)
+      (record { none-keeps = said e _ (c .enum-told .given .1); same-values = refl; same-unset = refl }, e .explore .ensures .1)
 
   search-returns-4 : Of search-lts.Need-returns-4
   search-returns-4 c =
@@ -236,7 +236,7 @@ module _ (t : ℕ) where
       let l = c .before in
       let a = asking l in (
         record {
-          barren = all-tried (opened a) (started a .pre .1 .0) (l .loop .v) (c .loop-test .left) (l .loop .inv .0);
+          none-keeps = all-tried (opened a) (started a .pre .1 .0) (l .loop .v) (c .loop-test .left) (l .loop .inv .0);
           same-values = l .loop .inv .1;
           same-unset = rw (l .loop .inv .2) (unset-back (opened a));
         },

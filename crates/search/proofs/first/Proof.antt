@@ -16,14 +16,14 @@ use Rattle.search.proofs.first.Statement.{statement}
 use Rattle.search.proofs.first.Tie as tie
 
 abbrev Inv-loop : tie.InvT-loop
-Inv-loop witness₀ n values₀ unset₀ sheet a rows places met kinds numbers₀ stack₀ waiting₀ targets₀ steps₀ i₀ witness values unset numbers stack waiting targets steps i =
+Inv-loop witness₀ n values₀ unset₀ sheet a rows indexes met kinds numbers₀ stack₀ waiting₀ targets₀ steps₀ i₀ witness values unset numbers stack waiting targets steps i =
     (i ≤ n) × Leading (sheetOf sheet) i witness × Work numbers stack waiting targets steps
 
 abbrev μ-loop : tie.MeasureT-loop
-μ-loop witness₀ n values₀ unset₀ sheet a rows places met kinds numbers₀ stack₀ waiting₀ targets₀ steps₀ i₀ witness values unset numbers stack waiting targets steps i =
+μ-loop witness₀ n values₀ unset₀ sheet a rows indexes met kinds numbers₀ stack₀ waiting₀ targets₀ steps₀ i₀ witness values unset numbers stack waiting targets steps i =
     n - i
 
--- ---- places
+-- ---- indexes
 abbrev At : (tie.InvT-loop → tie.MeasureT-loop → Type 0) → Type 0
 At P = P Inv-loop μ-loop
 
@@ -79,7 +79,7 @@ returns : tie.Need-returns Inv-loop μ-loop
 returns c =
     let f = c .before .before in
     let g = asking f in
-    nothing-first (s (started g)) _ _ _ (started g .pre .0) (begun g) (told f _ (c .enum-told .given .1) .barren)
+    nothing-first (s (started g)) _ _ _ (started g .pre .0) (begun g) (told f _ (c .enum-told .given .1) .none-keeps)
 
 enum-told-2 : tie.Need-enum-told-2 Inv-loop μ-loop
 enum-told-2 c = search needs

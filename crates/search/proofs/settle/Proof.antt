@@ -19,14 +19,14 @@ use Rattle.search.proofs.settle.Statement.{statement}
 use Rattle.search.proofs.settle.Tie as tie
 
 abbrev Inv-loop : tie.InvT-loop
-Inv-loop witness₀ i n values₀ unset₀ sheet a rows places met kinds numbers₀ stack₀ waiting₀ targets₀ steps₀ kind most v₀ witness values unset numbers stack waiting targets steps v =
+Inv-loop witness₀ i n values₀ unset₀ sheet a rows indexes met kinds numbers₀ stack₀ waiting₀ targets₀ steps₀ kind most v₀ witness values unset numbers stack waiting targets steps v =
     Trying (kindOf kind) (Lost (sheetOf sheet) i witness₀) v × (witness ≡ witness₀) × Work numbers stack waiting targets steps
 
 abbrev μ-loop : tie.MeasureT-loop
-μ-loop witness₀ i n values₀ unset₀ sheet a rows places met kinds numbers₀ stack₀ waiting₀ targets₀ steps₀ kind most v₀ witness values unset numbers stack waiting targets steps v =
+μ-loop witness₀ i n values₀ unset₀ sheet a rows indexes met kinds numbers₀ stack₀ waiting₀ targets₀ steps₀ kind most v₀ witness values unset numbers stack waiting targets steps v =
     256 - v
 
--- ---- places
+-- ---- indexes
 abbrev At : (tie.InvT-loop → tie.MeasureT-loop → Type 0) → Type 0
 At P = P Inv-loop μ-loop
 
@@ -150,7 +150,7 @@ loop-again c =
     let g = asking f in
     let l = looping g in
     let r = told f _ (c .before .enum-told2 .given .1) in
-    (trying-more _ _ _ _ (c .next-value2 .ensures) (l .loop .inv .0) (begun-lost (settling (started g)) (begun g) (l .loop .v) (r .barren)), l .loop .inv .1, f .search .ensures .1)
+    (trying-more _ _ _ _ (c .next-value2 .ensures) (l .loop .inv .0) (begun-lost (settling (started g)) (begun g) (l .loop .v) (r .none-keeps)), l .loop .inv .1, f .search .ensures .1)
 
 returns-2 : tie.Need-returns-2 Inv-loop μ-loop
 returns-2 c =

@@ -4,7 +4,7 @@ use mathlib.Core.Bool.{false}
 use native.Mathlib.Omega.{arith}
 use borrow.Author.Needs.{needs}
 use Rattle.model.specs.Sheet.{Sheet, Reading, short, readSheet}
-use Rattle.model.proofs.Sheet.{good-architecture}
+use Rattle.model.proofs.ProperSheet.{good-architecture}
 use Rattle.sheet.specs.Struct.{readingOf, Sized, Reads}
 use Rattle.sheet.specs.Grow.{processesFrom}
 use Rattle.sheet.proofs.Tests.{fails, passes, stop, go, too-few, enough, reads-as}

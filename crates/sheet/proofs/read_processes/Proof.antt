@@ -9,7 +9,7 @@ use borrow.Author.Needs.{needs}
 use borrow.Author.Tests.{not-true, not-false, eq-eqb, ne-eqb}
 use Rattle.model.specs.Mask.{share}
 use Rattle.model.specs.Sheet.{short, processAt, fieldFault, prFault, composedStates}
-use Rattle.model.proofs.Sheet.{good-fields}
+use Rattle.model.proofs.ProperSheet.{good-fields}
 use Rattle.sheet.specs.Struct.{sheetOf, processesOf, joined, outputsOf}
 use Rattle.sheet.specs.Grow.{processesFrom}
 use Rattle.sheet.proofs.Tests.{fails, passes, stop, go, too-few, enough, reads-as}

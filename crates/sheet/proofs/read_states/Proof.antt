@@ -3,7 +3,7 @@ use mathlib.Core.Path.{_≡_, sym, ap, _∙_}
 use Prim.Native.Nat.{ℕ, _+_, _*_}
 use borrow.Author.Needs.{needs}
 use Rattle.model.specs.Sheet.{Sheet, byte, auFault}
-use Rattle.model.proofs.Sheet.{good-automaton}
+use Rattle.model.proofs.ProperSheet.{good-automaton}
 use Rattle.sheet.specs.Struct.{sheetOf}
 use Rattle.sheet.specs.Grow.{withAutomaton, edgesFrom, statesFrom}
 use Rattle.sheet.proofs.Tests.{stop, go, reads-as}

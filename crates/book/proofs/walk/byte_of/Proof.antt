@@ -3,20 +3,20 @@ use native.Mathlib.Omega.{arith}
 use lib.Seq.{drop-cons}
 use borrow.Author.Needs.{needs}
 use Rattle.model.specs.Book.{filled}
-use Rattle.model.proofs.Book.{holes}
-use Rattle.book.proofs.Places.{place-entry, place-due}
+use Rattle.model.proofs.BookInverse.{holes}
+use Rattle.book.proofs.Slots.{slot-entry, slot-due}
 use Rattle.book.proofs.walk.byte_of.Statement.{statement}
 use Rattle.book.proofs.walk.byte_of.Tie as tie
 
 shared-slice-read-result : tie.Need-shared-slice-read-result
 unfolding holes
-shared-slice-read-result c = omega (arith, rw (place-entry _ (c .before .if1 .taken)) at (c .before .before .pre))
+shared-slice-read-result c = omega (arith, rw (slot-entry _ (c .before .if1 .taken)) at (c .before .before .pre))
 
 returns : tie.Need-returns
 unfolding filled holes
 returns c =
     let a = c .before .before .args in
-    rw (place-entry _ (c .before .if1 .taken), drop-cons (a .tables .now) (a .e) 0 (omega (arith, rw (place-entry _ (c .before .if1 .taken)) at (c .before .before .pre))))
+    rw (slot-entry _ (c .before .if1 .taken), drop-cons (a .tables .now) (a .e) 0 (omega (arith, rw (slot-entry _ (c .before .if1 .taken)) at (c .before .before .pre))))
 
 sub-result : tie.Need-sub-result
 sub-result c = search needs
@@ -26,7 +26,7 @@ cast-result c = search needs
 
 returns-2 : tie.Need-returns-2
 unfolding filled
-returns-2 c = rw (place-due _ (c .if1 .left))
+returns-2 c = rw (slot-due _ (c .if1 .left))
 
 pub byte-of-spec : {M : Type 1} → statement M
 byte-of-spec =

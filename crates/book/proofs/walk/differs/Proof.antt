@@ -1,20 +1,20 @@
 -- `book::walk::differs` meets its contract. Assumes nothing.
 use borrow.Author.Needs.{needs}
 use Rattle.model.specs.Book.{wellFormed}
-use Rattle.book.proofs.Places.{and-true, place-entry, place-due}
+use Rattle.book.proofs.Slots.{and-true, slot-entry, slot-due}
 use Rattle.book.proofs.walk.differs.Statement.{statement}
 use Rattle.book.proofs.walk.differs.Tie as tie
 
 returns : tie.Need-returns
 unfolding wellFormed
-returns c = rw (place-entry _ (c .if1 .taken))
+returns c = rw (slot-entry _ (c .if1 .taken))
 
 sub-result : tie.Need-sub-result
 sub-result c = search needs
 
 returns-2 : tie.Need-returns-2
 unfolding wellFormed
-returns-2 c = rw (place-due _ (c .if1 .left), and-true)
+returns-2 c = rw (slot-due _ (c .if1 .left), and-true)
 
 pub differs-spec : {M : Type 1} → statement M
 differs-spec = tie.close (tie.spec returns sub-result returns-2)

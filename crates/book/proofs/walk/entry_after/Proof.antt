@@ -1,8 +1,8 @@
 -- `book::walk::entry_after` meets its contract. Assumes nothing.
 use native.Mathlib.Omega.{arith}
 use borrow.Author.Needs.{needs}
-use Rattle.model.proofs.Book.{holes}
-use Rattle.book.proofs.Places.{place-entry, place-due}
+use Rattle.model.proofs.BookInverse.{holes}
+use Rattle.book.proofs.Slots.{slot-entry, slot-due}
 use Rattle.book.proofs.walk.entry_after.Statement.{statement}
 use Rattle.book.proofs.walk.entry_after.Tie as tie
 
@@ -11,11 +11,11 @@ add-result c = search needs
 
 returns : tie.Need-returns
 unfolding holes
-returns c = rw (place-entry _ (c .if1 .taken))
+returns c = rw (slot-entry _ (c .if1 .taken))
 
 returns-2 : tie.Need-returns-2
 unfolding holes
-returns-2 c = rw (place-due _ (c .if1 .left)) (omega arith)
+returns-2 c = rw (slot-due _ (c .if1 .left)) (omega arith)
 
 pub entry-after-spec : {M : Type 1} → statement M
 entry-after-spec = tie.close (tie.spec add-result returns returns-2)

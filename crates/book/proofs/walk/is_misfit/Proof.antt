@@ -11,7 +11,7 @@ use borrow.Author.Tests.{not-true, not-false}
 use Rattle.model.specs.Choice.{may, fits}
 use Rattle.sheet.proofs.Masks.{and-on, and-off}
 use Rattle.layout.specs.Codes.{kindOf, kindsOf}
-use Rattle.book.proofs.Places.{fits-turn}
+use Rattle.book.proofs.Slots.{fits-turn}
 use Rattle.book.proofs.walk.is_misfit.Statement.{statement}
 use Rattle.book.proofs.walk.is_misfit.Tie as tie
 

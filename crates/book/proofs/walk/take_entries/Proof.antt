@@ -1,4 +1,4 @@
--- `book::walk::take_entries` meets its contract. The invariant: the entries among the first k places are at the front. Assumes nothing.
+-- `book::walk::take_entries` meets its contract. The invariant: the entries among the first k slots are at the front. Assumes nothing.
 use mathlib.Core.Path.{_≡_, refl, sym, ap, _∙_}
 use mathlib.Core.List.{List, [], _∷_}
 use Prim.Native.Nat.{ℕ, _-_, _≤_}
@@ -6,29 +6,29 @@ use native.Mathlib.Omega.{arith}
 use lib.ListN.{length, getD, length-append}
 use Rattle.model.specs.Book.{entriesIn}
 use Rattle.model.specs.Calls.{front}
-use Rattle.layout.specs.Codes.{placeOf, placesOf}
-use Rattle.book.proofs.Places.{places-length, entries-length, entries-more, holes-fewer, entries-room, front-more, front-length}
+use Rattle.layout.specs.Codes.{slotOf, slotsOf}
+use Rattle.book.proofs.Slots.{slots-length, entries-length, entries-more, holes-fewer, entries-room, front-more, front-length}
 use Rattle.book.proofs.walk.take_entries.Statement.{statement}
 use Rattle.book.proofs.walk.take_entries.Tie as tie
 
 abbrev Inv-loop : tie.InvT-loop
-Inv-loop tables₀ places n book e₀ k₀ tables e k = (k ≤ n) × ((e ≡ length (entriesIn (placesOf places k) book)) × (tables ≡ front (entriesIn (placesOf places k) book) tables₀))
+Inv-loop tables₀ slots n book e₀ k₀ tables e k = (k ≤ n) × ((e ≡ length (entriesIn (slotsOf slots k) book)) × (tables ≡ front (entriesIn (slotsOf slots k) book) tables₀))
 
 abbrev μ-loop : tie.MeasureT-loop
-μ-loop tables₀ places n book e₀ k₀ tables e k = n - k
+μ-loop tables₀ slots n book e₀ k₀ tables e k = n - k
 
 loop-holds : tie.Need-loop-holds Inv-loop μ-loop
 unfolding entriesIn front
 loop-holds c = (omega arith, (refl, refl))
 
-mul-keep : tie.Need-mul-keep Inv-loop μ-loop
-mul-keep c = omega arith
+mul-take-entry : tie.Need-mul-take-entry Inv-loop μ-loop
+mul-take-entry c = omega arith
 
-shared-slice-read-keep : tie.Need-shared-slice-read-keep Inv-loop μ-loop
-shared-slice-read-keep c = omega arith
+shared-slice-read-take-entry : tie.Need-shared-slice-read-take-entry Inv-loop μ-loop
+shared-slice-read-take-entry c = omega arith
 
-shared-slice-read-keep-2 : tie.Need-shared-slice-read-keep-2 Inv-loop μ-loop
-shared-slice-read-keep-2 c = omega arith
+shared-slice-read-take-entry-2 : tie.Need-shared-slice-read-take-entry-2 Inv-loop μ-loop
+shared-slice-read-take-entry-2 c = omega arith
 
 -- the tables keep their length
 long : (c : tie.At-loop Inv-loop μ-loop) → length (c .loop .tables) ≡ length (c .before .before .before .before .args .tables .now)
@@ -37,15 +37,15 @@ long c =
     let p = c .before .before .before .before .pre in
     let l = c .loop in
     ap length (l .inv .1 .1)
-    ∙ front-length (entriesIn (placesOf (a .places .now) (l .k)) (a .book .now)) (a .tables .now)
-    (omega (arith, entries-length (placesOf (a .places .now) (l .k)) (a .book .now) (omega (arith, places-length (a .places .now) (l .k) (omega (arith, l .inv .0, p .0 .0)), l .inv .0, p .0 .1)), holes-fewer (a .places .now) (l .k) (a .n) (l .inv .0), p .1))
+    ∙ front-length (entriesIn (slotsOf (a .slots .now) (l .k)) (a .book .now)) (a .tables .now)
+    (omega (arith, entries-length (slotsOf (a .slots .now) (l .k)) (a .book .now) (omega (arith, slots-length (a .slots .now) (l .k) (omega (arith, l .inv .0, p .0 .0)), l .inv .0, p .0 .1)), holes-fewer (a .slots .now) (l .k) (a .n) (l .inv .0), p .1))
 
-keep-requires : tie.Need-keep-requires Inv-loop μ-loop
-keep-requires c κs =
+take-entry-requires : tie.Need-take-entry-requires Inv-loop μ-loop
+take-entry-requires c κs =
     let a = c .before .before .before .before .before .before .before .before .args in
     let p = c .before .before .before .before .before .before .before .before .pre in
     let l = c .before .before .before .before .loop in
-    omega (arith, long (c .before .before .before .before), l .inv .1 .0, entries-room (a .places .now) (l .k) (a .n) (length (a .tables .now)) (c .before .before .before .loop-test .taken) (p .0 .0) (p .1) (a .book .now) (p .0 .1))
+    omega (arith, long (c .before .before .before .before), l .inv .1 .0, entries-room (a .slots .now) (l .k) (a .n) (length (a .tables .now)) (c .before .before .before .loop-test .taken) (p .0 .0) (p .1) (a .book .now) (p .0 .1))
 
 add-k : tie.Need-add-k Inv-loop μ-loop
 add-k c = omega (arith, c .before .before .before .before .before .before .loop-test .taken)
@@ -58,11 +58,11 @@ loop-again c =
     let a = c .before .before .before .before .before .before .before .before .before .before .before .args in
     let p = c .before .before .before .before .before .before .before .before .before .before .before .pre in
     let l = c .before .before .before .before .before .before .before .loop in
-    let k = c .before .before .keep in
+    let k = c .before .before .take-entry in
     let h = c .before .before .before .before .before .before .loop-test .taken in
-    let more = entries-more (a .places .now) (a .book .now) (l .k) (omega (arith, h, p .0 .0)) (omega (arith, h, p .0 .1)) in
-    let old = entriesIn (placesOf (a .places .now) (l .k)) (a .book .now) in
-    let new = entriesIn (placeOf (getD (a .places .now) (l .k) 0) ∷ []) (getD (a .book .now) (l .k) 0 ∷ []) in (
+    let more = entries-more (a .slots .now) (a .book .now) (l .k) (omega (arith, h, p .0 .0)) (omega (arith, h, p .0 .1)) in
+    let old = entriesIn (slotsOf (a .slots .now) (l .k)) (a .book .now) in
+    let new = entriesIn (slotOf (getD (a .slots .now) (l .k) 0) ∷ []) (getD (a .book .now) (l .k) 0 ∷ []) in (
       omega (arith, h),
       (
         k .ensures .0 ∙ rw (l .inv .1 .0) (sym (ap length more ∙ length-append old new)),
@@ -83,10 +83,10 @@ take-entries-spec =
     Inv-loop
     μ-loop
     loop-holds
-    mul-keep
-    shared-slice-read-keep
-    shared-slice-read-keep-2
-    keep-requires
+    mul-take-entry
+    shared-slice-read-take-entry
+    shared-slice-read-take-entry-2
+    take-entry-requires
     add-k
     loop-less
     loop-again

@@ -1,0 +1,99 @@
+-- The list of choices has exactly the choices, each once, in order.
+use mathlib.Core.Path.{_≡_, refl, sym, ap, subst}
+use mathlib.Core.Logic.{_⊎_, inl, inr, ⊎-elim}
+use mathlib.Core.List.{List, [], _∷_, _++_, map, List·Memᴰ, List·Memᴰ·head, List·Memᴰ·tail, List·Memᴰ·not-nil, List·Memᴰ·cases-cons, List·Memᴰ·append-cases}
+use Prim.Native.Nat.{ℕ}
+use native.Mathlib.Omega.{arith}
+use Rattle.model.specs.Sheet.{Sheet, proper, readSheet}
+use Rattle.model.specs.Choice.{Entry, values, entries, Fits, done, also, Before, lower, later, empty, then, Ordered, Once, each, choices}
+use Rattle.model.specs.Demands.{order-of-choices}
+use Rattle.model.proofs.ProperSheet.{sheet-good}
+use Rattle.model.proofs.FirstInOrder.{Rising, flat, up, AllSmall, values-rising, values-has, values-may, entries-small}
+
+heads-sound : (v : ℕ) (cs : List (List ℕ)) (c : List ℕ) → List·Memᴰ c (map (λ d. v ∷ d) cs) → (d : List ℕ) × List·Memᴰ d cs × (c ≡ v ∷ d)
+heads-sound v [] c m = absurd (List·Memᴰ·not-nil m)
+heads-sound v (d ∷ cs) c (List·Memᴰ·head e) = (d, List·Memᴰ·head refl, e)
+heads-sound v (d ∷ cs) c (List·Memᴰ·tail m) = let r : (d : List ℕ) × List·Memᴰ d cs × (c ≡ v ∷ d) = heads-sound v cs c m in (r .0, List·Memᴰ·tail (r .1), r .2)
+
+heads-has : (v : ℕ) (cs : List (List ℕ)) (c : List ℕ) → List·Memᴰ c cs → List·Memᴰ (v ∷ c) (map (λ d. v ∷ d) cs)
+heads-has v (d ∷ cs) c (List·Memᴰ·head e) = List·Memᴰ·head (ap (λ (x : List ℕ). v ∷ x) e)
+heads-has v (d ∷ cs) c (List·Memᴰ·tail m) = List·Memᴰ·tail (heads-has v cs c m)
+
+in-left : {c : List ℕ} (xs ys : List (List ℕ)) → List·Memᴰ c xs → List·Memᴰ c (xs ++ ys)
+in-left (x ∷ xs) ys (List·Memᴰ·head e) = List·Memᴰ·head e
+in-left (x ∷ xs) ys (List·Memᴰ·tail m) = List·Memᴰ·tail (in-left xs ys m)
+
+in-right : {c : List ℕ} (xs ys : List (List ℕ)) → List·Memᴰ c ys → List·Memᴰ c (xs ++ ys)
+in-right [] ys m = m
+in-right (x ∷ xs) ys m = List·Memᴰ·tail (in-right xs ys m)
+
+each-sound : (vs : List ℕ) (cs : List (List ℕ)) (c : List ℕ) → List·Memᴰ c (each vs cs) → (v : ℕ) × (d : List ℕ) × List·Memᴰ v vs × List·Memᴰ d cs × (c ≡ v ∷ d)
+unfolding each
+each-sound [] cs c m = absurd (List·Memᴰ·not-nil m)
+each-sound (v ∷ vs) cs c m = by (List·Memᴰ·append-cases (map (λ d. v ∷ d) cs) m) (λ i. each-sound vs cs c i)
+  where
+    by : List·Memᴰ c (map (λ d. v ∷ d) cs) ⊎ List·Memᴰ c (each vs cs) → (List·Memᴰ c (each vs cs) → (v : ℕ) × (d : List ℕ) × List·Memᴰ v vs × List·Memᴰ d cs × (c ≡ v ∷ d))
+        → (u : ℕ) × (d : List ℕ) × List·Memᴰ u (v ∷ vs) × List·Memᴰ d cs × (c ≡ u ∷ d)
+    by (inl i) ih = let r : (d : List ℕ) × List·Memᴰ d cs × (c ≡ v ∷ d) = heads-sound v cs c i in (v, r .0, List·Memᴰ·head refl, r .1, r .2)
+    by (inr i) ih = let r = ih i in (r .0, r .1, List·Memᴰ·tail (r .2), r .3, r .4)
+
+each-has : (vs : List ℕ) (cs : List (List ℕ)) (v : ℕ) (c : List ℕ) → List·Memᴰ v vs → List·Memᴰ c cs → List·Memᴰ (v ∷ c) (each vs cs)
+unfolding each
+each-has (u ∷ vs) cs v c (List·Memᴰ·head e) m = in-left (map (λ d. u ∷ d) cs) (each vs cs) (subst (λ (x : ℕ). List·Memᴰ (x ∷ c) (map (λ d. u ∷ d) cs)) (sym e) (heads-has u cs c m))
+each-has (u ∷ vs) cs v c (List·Memᴰ·tail i) m = in-right (map (λ d. u ∷ d) cs) (each vs cs) (each-has vs cs v c i m)
+
+-- ---- exactly the choices
+listed-fits : (es : List Entry) (c : List ℕ) → List·Memᴰ c (choices es) → Fits es c
+unfolding choices
+listed-fits [] c m = ⊎-elim (λ (e : c ≡ []). subst (Fits []) (sym e) done) (λ i. absurd (List·Memᴰ·not-nil i)) (List·Memᴰ·cases-cons m)
+listed-fits (e ∷ es) c m =
+    let r : (v : ℕ) × (d : List ℕ) × List·Memᴰ v (values e) × List·Memᴰ d (choices es) × (c ≡ v ∷ d) = each-sound (values e) (choices es) c m in
+    subst (Fits (e ∷ es)) (sym (r .4)) (also (values-may e (r .0) (r .2)) (listed-fits es (r .1) (r .3)))
+
+fits-listed : (es : List Entry) (c : List ℕ) → AllSmall es → Fits es c → List·Memᴰ c (choices es)
+unfolding choices
+fits-listed [] c small done = List·Memᴰ·head refl
+fits-listed (e ∷ es) c small (also {v = v} {c = d} m f) =
+    each-has (values e) (choices es) v d (values-has e v (small e (List·Memᴰ·head refl)) m) (fits-listed es d (λ x i. small x (List·Memᴰ·tail i)) f)
+
+-- ---- in order
+ordered-append : {xs ys : List (List ℕ)} → Ordered xs → Ordered ys → ((x y : List ℕ) → List·Memᴰ x xs → List·Memᴰ y ys → Before x y) → Ordered (xs ++ ys)
+ordered-append empty o h = o
+ordered-append {ys = ys} (then {c = c} {cs = cs} k p) o h =
+    then (λ d m. ⊎-elim (λ i. k d i) (λ i. h c d (List·Memᴰ·head refl) i) (List·Memᴰ·append-cases cs m)) (ordered-append p o (λ x y i j. h x y (List·Memᴰ·tail i) j))
+
+heads-ordered : (v : ℕ) {cs : List (List ℕ)} → Ordered cs → Ordered (map (λ d. v ∷ d) cs)
+heads-ordered v empty = empty
+heads-ordered v (then {c = c} {cs = cs} k o) =
+    then (λ d m. let r : (x : List ℕ) × List·Memᴰ x cs × (d ≡ v ∷ x) = heads-sound v cs d m in subst (Before (v ∷ c)) (sym (r .2)) (later (k (r .0) (r .1)))) (heads-ordered v o)
+
+each-ordered : {vs : List ℕ} (cs : List (List ℕ)) → Rising vs → Ordered cs → Ordered (each vs cs)
+unfolding each
+each-ordered cs flat o = empty
+each-ordered cs (up {x = v} {xs = vs} h r) o =
+    ordered-append (heads-ordered v o) (each-ordered cs r o)
+    (λ x y i j.
+    let a : (d : List ℕ) × List·Memᴰ d cs × (x ≡ v ∷ d) = heads-sound v cs x i in
+    let b : (u : ℕ) × (d : List ℕ) × List·Memᴰ u vs × List·Memᴰ d cs × (y ≡ u ∷ d) = each-sound vs cs y j in
+    subst (λ (z : List ℕ). Before z y) (sym (a .2)) (subst (Before (v ∷ a .0)) (sym (b .4)) (lower (h (b .0) (b .2)))))
+
+choices-ordered : (es : List Entry) → Ordered (choices es)
+unfolding choices
+choices-ordered [] = then (λ d m. absurd (List·Memᴰ·not-nil m)) empty
+choices-ordered (e ∷ es) = each-ordered (choices es) (values-rising e) (choices-ordered es)
+
+-- ---- each once
+before-differs : {c d : List ℕ} → Before c d → ¬ (c ≡ d)
+before-differs (lower {v = v} {w = w} l) e = let z : v ≡ w = cc in omega arith
+before-differs (later {c = c} {d = d} b) e = let z : c ≡ d = cc in before-differs b z
+
+ordered-once : {cs : List (List ℕ)} → Ordered cs → Once cs
+ordered-once empty = empty
+ordered-once (then h o) = then (λ d m. before-differs (h d m)) (ordered-once o)
+
+pub choices-in-order : (sheet : List ℕ) (s : Sheet) → readSheet sheet ≡ proper s → order-of-choices s
+choices-in-order sheet s is-proper = record {
+  exactly = λ c. (λ m. listed-fits (entries s) c m, λ f. fits-listed (entries s) c (entries-small s (sheet-good sheet s is-proper)) f);
+  once = ordered-once (choices-ordered (entries s));
+  ordered = choices-ordered (entries s);
+}

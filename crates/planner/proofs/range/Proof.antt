@@ -1,0 +1,60 @@
+-- `planner::range` meets its contract: the sheet is read, and then the book. Assumes nothing.
+use mathlib.Core.Path.{_∙_}
+use borrow.Author.Needs.{needs}
+use Rattle.model.specs.Sheet.{_then_}
+use Rattle.model.specs.Calls.{cut, partSheet, partOf}
+use Rattle.composition.proofs.Sheets.{sized}
+use Rattle.book.proofs.Same.{same-part, part-by}
+use Rattle.planner.proofs.Sheets.{refusal-is, sheet-is, good-is}
+use Rattle.planner.proofs.range.Statement.{statement}
+use Rattle.planner.proofs.range.Tie as tie
+
+read-requires : tie.Need-read-requires
+read-requires c κs = search needs
+
+enum-known-answer : tie.Need-enum-known-answer
+enum-known-answer c = search needs
+
+nowhere-requires : tie.Need-nowhere-requires
+nowhere-requires c κs = search needs
+
+enum-told : tie.Need-enum-told
+enum-told c = search needs
+
+of-requires : tie.Need-of-requires
+of-requires c κs = search needs
+
+range-for-requires : tie.Need-range-for-requires
+range-for-requires c κs =
+    let a = c .before .before .before .before .before .before .before .args in
+    let r = c .before .before .before .before .read in
+    sized _ _ (c .of .ensures) (good-is (a .sheet .now) (r .result) (r .ensures .0) (c .before .before .enum-told .given .1))
+
+returns : tie.Need-returns
+unfolding partOf partSheet _then_ cut
+returns c =
+    let a = c .before .before .before .before .before .before .before .args in
+    let r = c .before .before .before .before .read in
+    let e = refusal-is (a .sheet .now) (r .result) (r .ensures .0) (c .before .before .answer .given .0 .0) (c .before .before .answer .given .1) in
+    rw e (c .nowhere .ensures)
+
+returns-2 : tie.Need-returns-2
+unfolding partOf
+returns-2 c =
+    let a = c .before .before .before .before .before .before .before .before .args in
+    let r = c .before .before .before .before .before .read in
+    let e = part-by (a .sheet .now) (a .book .now) (a .process) _ (sheet-is (a .sheet .now) (r .result) (r .ensures .0) (c .before .before .before .enum-told .given .1)) in
+    rw e (c .range-for .ensures ∙ same-part _ _ (c .before .of .ensures) (a .book .now) (a .process))
+
+pub range-spec : {M : Type 1} → statement M
+range-spec =
+    tie.close
+    (tie.spec
+    read-requires
+    enum-known-answer
+    nowhere-requires
+    enum-told
+    of-requires
+    range-for-requires
+    returns
+    returns-2)

@@ -1,0 +1,103 @@
+-- `synthesis::find_for` meets its contract: where there is room, the first choice decides. Assumes nothing.
+use mathlib.Core.Path.{_≡_, refl, sym, subst, _∙_}
+use borrow.Author.Needs.{needs}
+use Rattle.model.specs.Sheet.{proper}
+use Rattle.model.specs.Calls.{findIn, findChoice}
+use Rattle.sheet.specs.Struct.{sheetOf}
+use Rattle.search.specs.declared.Searched.{Searched}
+use Rattle.search.specs.Says.{Leads}
+use Rattle.synthesis.specs.Find.{roomToFind}
+use Rattle.synthesis.proofs.Room.{no-room, some-room}
+use Rattle.synthesis.proofs.find_for.Statement.{statement}
+use Rattle.synthesis.proofs.find_for.Tie as tie
+
+of-requires : tie.Need-of-requires
+of-requires c κs = search needs
+
+check-room-requires : tie.Need-check-room-requires
+check-room-requires c κs = search needs
+
+enum-known-room : tie.Need-enum-known-room
+enum-known-room c = search needs
+
+same-length : tie.Need-same-length
+same-length c = search needs
+
+same-length-2 : tie.Need-same-length-2
+same-length-2 c = search needs
+
+returns : tie.Need-returns
+unfolding findIn
+returns c =
+    let a = c .before .before .before .before .before .before .before .before .before .args in
+    let e = no-room (sheetOf (a .sheet)) (a .book .now) (a .annotation .now) (c .before .room .given .0 .0) (sym (c .before .room .given .1) ∙ c .before .before .before .check-room .ensures) in
+    rw e (refl, (refl, refl))
+
+enum-told : tie.Need-enum-told
+enum-told c = search needs
+
+-- there is room
+room-is : (c : tie.After-enum-told) → let a = c .before .before .before .before .before .before .before .before .args in roomToFind (sheetOf (a .sheet)) (a .book .now) (a .annotation .now) ≡ proper (sheetOf (a .sheet))
+room-is c = some-room _ _ _ (sym (c .enum-told .given .1) ∙ c .before .before .check-room .ensures)
+
+first-tables-requires : tie.Need-first-tables-requires
+first-tables-requires c κs = search needs
+
+-- what the search says, by its answer
+leads : (c : tie.After-first-tables) (r : Searched) → c .first-tables .result ≡ r → Leads (sheetOf (c .before .before .before .before .before .before .before .before .before .before .args .sheet)) (c .first-tables .last .0) r
+leads c r e = subst (Leads (sheetOf (c .before .before .before .before .before .before .before .before .before .before .args .sheet)) (c .first-tables .last .0)) e (c .first-tables .ensures)
+
+enum-told-2 : tie.Need-enum-told-2
+enum-told-2 c = search needs
+
+enum-told-3 : tie.Need-enum-told-3
+enum-told-3 c = search needs
+
+put-found-requires : tie.Need-put-found-requires
+put-found-requires c κs =
+    let p = c .before .before .before .before .before .before .before .before .before .before .before .before .before .before .before .pre in
+    (p .0, (p .1, (c .before .before .before .before .before .before .before .before .before .before .before .before .of .ensures, (leads (c .before .before .before .before .before) Searched.Tables (c .before .before .before .enum-told3 .given .1) .0, room-is (c .before .before .before .before .before .before .before)))))
+
+same-length-3 : tie.Need-same-length-3
+same-length-3 c = search needs
+
+same-length-4 : tie.Need-same-length-4
+same-length-4 c = search needs
+
+returns-2 : tie.Need-returns-2
+unfolding findIn findChoice
+returns-2 c = rw (room-is (c .before .before .before .before), leads (c .before .before) Searched.Nothing (c .enum-told2 .given .1)) (refl, (refl, refl))
+
+same-length-5 : tie.Need-same-length-5
+same-length-5 c = search needs
+
+same-length-6 : tie.Need-same-length-6
+same-length-6 c = search needs
+
+returns-3 : tie.Need-returns-3
+unfolding findIn findChoice
+returns-3 c =
+    let f = c .before .before .before .before .put-found .ensures in
+    rw (room-is (c .before .before .before .before .before .before .before .before .before .before .before .before), leads (c .before .before .before .before .before .before .before .before .before .before) Searched.Tables (c .before .before .before .before .before .before .before .before .enum-told3 .given .1) .1) (refl, (f .0, f .1))
+
+pub find-for-spec : {M : Type 1} → statement M
+find-for-spec =
+    tie.close
+    (tie.spec
+    of-requires
+    check-room-requires
+    enum-known-room
+    same-length
+    same-length-2
+    returns
+    enum-told
+    first-tables-requires
+    enum-told-2
+    enum-told-3
+    put-found-requires
+    same-length-3
+    same-length-4
+    returns-2
+    same-length-5
+    same-length-6
+    returns-3)

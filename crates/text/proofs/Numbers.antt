@@ -1,0 +1,76 @@
+-- Laws of numbers in decimal, and of the greatest number. Assumes nothing.
+use mathlib.Core.Path.{_≡_, sym, ap, _∙_}
+use mathlib.Core.Bool.{Bool, true, false}
+use mathlib.Core.Logic.{_⊎_, inl, inr}
+use mathlib.Core.List.{List, [], _∷_, _++_}
+use Prim.Native.Nat.{ℕ, zero, suc, _+_, _/_, _%_, _^_, _<_, _≤_, max}
+use native.Mathlib.Nat.{pow-suc}
+use native.Mathlib.Numerals.{add-one}
+use native.Mathlib.Omega.{arith}
+use native.Mathlib.Decide.{decLt}
+use lib.Dec.{eqb}
+use lib.ListN.{length, getD, drop, length-append}
+use lib.Seq.{drop-cons}
+use borrow.Author.Tests.{lt-ltb, le-ltb}
+use Rattle.theory.specs.Lists.{greatest}
+use Rattle.model.specs.Mask.{if}
+use Rattle.text.specs.Text.{digit, decimalIn, decimal, unblank}
+
+-- below 10 there is one digit
+digits-few : (k n : ℕ) → n < 10 → decimalIn (suc k) n ≡ digit n ∷ []
+unfolding decimalIn if
+digits-few k n h = let e : n % 10 ≡ n = omega arith in rw (e, lt-ltb n 10 h)
+
+-- from 10 on the last digit stands behind the others
+digits-more : (k n : ℕ) → 10 ≤ n → decimalIn (suc k) n ≡ decimalIn k (n / 10) ++ (digit (n % 10) ∷ [])
+unfolding decimalIn if
+digits-more k n h = rw (le-ltb n 10 h)
+
+few? : (n : ℕ) → (n < 10) ⊎ (10 ≤ n)
+few? n = by (decLt n 10)
+  where
+    by : Dec (n < 10) → (n < 10) ⊎ (10 ≤ n)
+    by (yes h) = inl h
+    by (no h) = inr (omega arith)
+
+-- more places than digits change nothing
+digits-same : (k m n : ℕ) → n < k → n < m → decimalIn k n ≡ decimalIn m n
+digits-same zero m n h l = absurd (omega arith)
+digits-same (suc k) zero n h l = absurd (omega arith)
+digits-same (suc k) (suc m) n h l = by (digits-same k m (n / 10)) (few? n)
+  where
+    by : (n / 10 < k → n / 10 < m → decimalIn k (n / 10) ≡ decimalIn m (n / 10)) → (n < 10) ⊎ (10 ≤ n) → decimalIn (suc k) n ≡ decimalIn (suc m) n
+    by r (inl few) = digits-few k n few ∙ sym (digits-few m n few)
+    by r (inr more) = digits-more k n more ∙ ap (λ (l : List ℕ). l ++ (digit (n % 10) ∷ [])) (r (omega arith) (omega arith)) ∙ sym (digits-more m n more)
+
+pub decimal-few : (n : ℕ) → n < 10 → decimal n ≡ digit n ∷ []
+unfolding decimal
+decimal-few n h = digits-few n n h
+
+pub decimal-more : (n : ℕ) → 10 ≤ n → decimal n ≡ decimal (n / 10) ++ (digit (n % 10) ∷ [])
+unfolding decimal
+decimal-more n h = digits-more n n h ∙ ap (λ (l : List ℕ). l ++ (digit (n % 10) ∷ [])) (digits-same n (suc (n / 10)) (n / 10) (omega arith) (omega arith))
+
+-- how many digits there are
+pub decimal-short : (k n : ℕ) → n < 10 ^ suc k → length (decimal n) ≤ suc k
+decimal-short zero n h = omega (arith, ap length (decimal-few n h))
+decimal-short (suc k) n h = by (decimal-short k (n / 10)) (few? n)
+  where
+    by : (n / 10 < 10 ^ suc k → length (decimal (n / 10)) ≤ suc k) → (n < 10) ⊎ (10 ≤ n) → length (decimal n) ≤ suc (suc k)
+    by r (inl few) = omega (arith, ap length (decimal-few n few))
+    by r (inr more) = omega (arith, ap length (decimal-more n more), length-append (decimal (n / 10)) (digit (n % 10) ∷ []), r (omega (arith, pow-suc 10 (suc k))))
+
+-- one number more is taken into the greatest
+pub greatest-turn : (l : List ℕ) (k most more : ℕ) → k < length l → more ≡ max most (unblank (getD l k 0)) → max more (greatest unblank (drop (k + 1) l)) ≡ max most (greatest unblank (drop k l))
+unfolding greatest
+greatest-turn l k most more h e = rw (add-one k, drop-cons l k 0 h) (omega arith)
+
+-- an annotation's greatest number is one of a word
+pub greatest-few : (l : List ℕ) → ((k : ℕ) → getD l k 0 < 65536) → greatest unblank l < 65536
+unfolding greatest unblank if
+greatest-few [] h = omega arith
+greatest-few (x ∷ xs) h = omega (arith, small (eqb x 65535) (h 0), greatest-few xs (λ k. h (suc k)))
+  where
+    small : (t : Bool) → x < 65536 → if t 0 x < 65536
+    small true k = omega arith
+    small false k = k

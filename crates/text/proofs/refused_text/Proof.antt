@@ -1,0 +1,35 @@
+-- `text::refused_text` meets its contract. Assumes nothing.
+use Prim.Native.Nat.{_≤_}
+use native.Mathlib.Omega.{arith}
+use lib.ListN.{length, length-append}
+use borrow.Author.Needs.{needs}
+use Rattle.text.specs.Text.{refusedWord, line}
+use Rattle.text.proofs.Bytes.{put-whole}
+use Rattle.text.proofs.Numbers.{decimal-short}
+use Rattle.text.proofs.refused_text.Statement.{statement}
+use Rattle.text.proofs.refused_text.Tie as tie
+
+slice-aggregate-put-line : tie.Need-slice-aggregate-put-line
+slice-aggregate-put-line c = search needs
+
+number-requires : tie.Need-number-requires
+number-requires c κs = search needs
+
+cast-put-line : tie.Need-cast-put-line
+cast-put-line c = search needs
+
+-- the text is short
+short : (c : tie.After-number) → length (line refusedWord (c .number .result)) ≤ 19
+unfolding line
+short c = simp length-append (omega (arith, decimal-short 9 (c .number .result) (omega (arith, c .number .ok))))
+
+put-line-requires : tie.Need-put-line-requires
+put-line-requires c κs = omega (arith, short c)
+
+returns : tie.Need-returns
+returns c = rw (← c .before .number .ensures) (put-whole (c .put-line .ensures) (omega arith) (omega (arith, short (c .before))))
+
+pub refused-text-spec : {M : Type 1} → statement M
+refused-text-spec =
+    tie.close
+    (tie.spec slice-aggregate-put-line number-requires cast-put-line put-line-requires returns)
