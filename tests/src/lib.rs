@@ -1,33 +1,32 @@
 //! A second reading of the specification, written apart from the library, and
-//! generators of inputs. The tests hold the library's answers against it.
+//! the inputs on which the tests hold the library's answers against it.
 
-pub mod annotations;
-pub mod bench;
+// The rules.
 pub mod book;
-pub mod enumerate;
-pub mod fast;
-pub mod faults;
-pub mod ffi;
-pub mod generate;
-pub mod graph;
-pub mod large;
-pub mod mangle;
-pub mod page;
-pub mod rng;
-pub mod runs;
+pub mod choices;
+pub mod components;
+pub mod fast_enumeration;
+pub mod proper_sheet;
+pub mod refusal;
+pub mod run_graph;
 pub mod sheet;
-pub mod small;
+pub mod transition_system;
 
-/// Bytes as the specification lists them, two upper-case digits each.
-pub fn hex(bytes: &[u8]) -> String {
-    let digits: Vec<String> = bytes.iter().map(|byte| format!("{byte:02X}")).collect();
-    digits.join(" ")
-}
+// The inputs.
+pub mod bench_cases;
+pub mod few_choices;
+pub mod joint_counter;
+pub mod many_choices;
+pub mod random_annotations;
+pub mod random_books;
+pub mod random_faults;
+pub mod random_sheets;
+pub mod rejecting_loops;
+pub mod rng;
+pub mod single_faults;
 
-/// The numbers in short, each with how often it follows itself, and no more
-/// of them than can be read.
-pub fn brief(numbers: &[u16]) -> String {
-    let runs = numbers.chunk_by(|one, next| one == next);
-    let runs = runs.map(|run| format!("{}*{}", run[0], run.len()));
-    runs.take(300).collect::<Vec<_>>().join(" ")
-}
+// The library, and what a comparison with it needs.
+pub mod ffi;
+pub mod guarded_buffer;
+pub mod tally;
+pub mod text;

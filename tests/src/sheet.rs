@@ -1,15 +1,9 @@
 //! An independent reading of the sheet file.
 
-/// The number of a refusal. 0 is never one: it stands for "not refused".
-pub type Refusal = u32;
-
-pub const CUT_OFF: Refusal = 1;
-pub const WRONG_MARK: Refusal = 2;
-pub const WRONG_ARCHITECTURE: Refusal = 3;
-pub const WRONG_PROCESS: Refusal = 4;
-pub const WRONG_COMPOSITION: Refusal = 5;
-pub const WRONG_AUTOMATON: Refusal = 6;
-pub const WRONG_EDGE: Refusal = 7;
+use crate::refusal::{
+    Refusal, CUT_OFF, WRONG_ARCHITECTURE, WRONG_AUTOMATON, WRONG_COMPOSITION, WRONG_EDGE,
+    WRONG_MARK, WRONG_PROCESS,
+};
 
 pub const MOST_VARIABLES: usize = 8;
 pub const MOST_ENVIRONMENT: usize = 4;
@@ -18,11 +12,13 @@ pub const MOST_INPUTS: u32 = 4;
 pub const MOST_BOUND: usize = 4;
 pub const MOST_COMPOSED: usize = 256;
 pub const MOST_STATES: usize = 16;
+pub const MOST_VERTICES: usize = MOST_COMPOSED * MOST_STATES;
 pub const MOST_EDGES: usize = 64;
 pub const LONGEST_SHEET: usize = 417;
 
+/// The kinds of records in a sheet.
 #[derive(Clone, Copy, Debug, PartialEq, Eq)]
-pub enum Kind {
+pub enum RecordKind {
     Architecture,
     Process,
     Automaton,
@@ -30,23 +26,39 @@ pub enum Kind {
     End,
 }
 
-impl Kind {
+impl RecordKind {
+    pub const IN_ORDER: [RecordKind; 5] = [
+        RecordKind::Architecture,
+        RecordKind::Process,
+        RecordKind::Automaton,
+        RecordKind::Edge,
+        RecordKind::End,
+    ];
+
+    /// All but the last.
+    pub const WITH_FIELDS: [RecordKind; 4] = [
+        RecordKind::Architecture,
+        RecordKind::Process,
+        RecordKind::Automaton,
+        RecordKind::Edge,
+    ];
+
     pub fn mark(self) -> &'static [u8; 2] {
         match self {
-            Kind::Architecture => b"AR",
-            Kind::Process => b"PR",
-            Kind::Automaton => b"AU",
-            Kind::Edge => b"ED",
-            Kind::End => b"EN",
+            RecordKind::Architecture => b"AR",
+            RecordKind::Process => b"PR",
+            RecordKind::Automaton => b"AU",
+            RecordKind::Edge => b"ED",
+            RecordKind::End => b"EN",
         }
     }
 
     /// How many bytes follow the mark.
-    pub fn fields(self) -> usize {
+    pub fn field_count(self) -> usize {
         match self {
-            Kind::Architecture | Kind::Process => 3,
-            Kind::Automaton | Kind::Edge => 4,
-            Kind::End => 0,
+            RecordKind::Architecture | RecordKind::Process => 3,
+            RecordKind::Automaton | RecordKind::Edge => 4,
+            RecordKind::End => 0,
         }
     }
 }
@@ -58,12 +70,45 @@ pub struct Process {
     pub bound: u8,
 }
 
+impl Process {
+    pub fn new(inputs: u8, outputs: u8, bound: u8) -> Self {
+        Process {
+            inputs,
+            outputs,
+            bound,
+        }
+    }
+
+    pub fn fields(&self) -> [u8; 3] {
+        [self.inputs, self.outputs, self.bound]
+    }
+
+    /// How many next states each of its rows has.
+    pub fn row_places(&self) -> usize {
+        1 << self.inputs.count_ones()
+    }
+}
+
 #[derive(Clone, Copy, Debug, Default, PartialEq, Eq)]
 pub struct Edge {
     pub from: u8,
     pub to: u8,
     pub on: u8,
     pub off: u8,
+}
+
+impl Edge {
+    pub fn new(from: u8, to: u8, on: u8, off: u8) -> Self {
+        Edge { from, to, on, off }
+    }
+
+    pub fn fields(&self) -> [u8; 4] {
+        [self.from, self.to, self.on, self.off]
+    }
+
+    pub fn is_met(&self, label: u8) -> bool {
+        label & self.on == self.on && label & self.off == 0
+    }
 }
 
 /// The fields of a sheet. Faulty sheets are built from it too, so nothing here
@@ -92,12 +137,26 @@ pub fn variables_of(mask: u8) -> Vec<u8> {
     (0..8).filter(|bit| mask >> bit & 1 == 1).collect()
 }
 
+/// The mask of these variables.
+pub fn mask_of(variables: &[u8]) -> u8 {
+    variables.iter().fold(0, |mask, bit| mask | 1 << bit)
+}
+
 impl Sheet {
     /// T, the number of composed states.
     pub fn composed(&self) -> usize {
         let directions = 1 << self.environment;
         let bounds = self.processes.iter().map(|p| p.bound as usize);
         directions * bounds.product::<usize>()
+    }
+
+    /// How many vertices a run graph has, which is the length of an annotation.
+    pub fn vertices(&self) -> usize {
+        self.composed() * self.states as usize
+    }
+
+    pub fn is_rejecting(&self, state: u8) -> bool {
+        self.rejecting >> state & 1 == 1
     }
 
     /// The variables that some process has as output.
@@ -107,20 +166,17 @@ impl Sheet {
 
     /// The sheet's records in file order, each with its mark.
     pub fn records(&self) -> Vec<Vec<u8>> {
-        let mut records = vec![record(
-            Kind::Architecture,
-            &[self.variables, self.environment, self.root],
-        )];
-        for p in &self.processes {
-            records.push(record(Kind::Process, &[p.inputs, p.outputs, p.bound]));
-        }
         let [low, high] = self.rejecting.to_le_bytes();
+        let architecture = [self.variables, self.environment, self.root];
         let automaton = [self.states, self.initial, low, high];
-        records.push(record(Kind::Automaton, &automaton));
-        for e in &self.edges {
-            records.push(record(Kind::Edge, &[e.from, e.to, e.on, e.off]));
-        }
-        records.push(record(Kind::End, &[]));
+        let processes = self.processes.iter().map(Process::fields);
+        let edges = self.edges.iter().map(Edge::fields);
+
+        let mut records = vec![record(RecordKind::Architecture, &architecture)];
+        records.extend(processes.map(|fields| record(RecordKind::Process, &fields)));
+        records.push(record(RecordKind::Automaton, &automaton));
+        records.extend(edges.map(|fields| record(RecordKind::Edge, &fields)));
+        records.push(record(RecordKind::End, &[]));
         records
     }
 
@@ -130,7 +186,7 @@ impl Sheet {
 }
 
 /// A record: its mark and then its fields.
-pub fn record(kind: Kind, fields: &[u8]) -> Vec<u8> {
+pub fn record(kind: RecordKind, fields: &[u8]) -> Vec<u8> {
     [kind.mark(), fields].concat()
 }
 
@@ -139,14 +195,14 @@ pub fn read_sheet(bytes: &[u8]) -> Result<Sheet, Refusal> {
     let mut rest = bytes;
     let mut sheet = Sheet::default();
     let mut last = None;
-    while last != Some(Kind::End) {
+    while last != Some(RecordKind::End) {
         let mark = take(&mut rest, 2)?;
         let kind = permitted(last, &sheet)
             .iter()
             .find(|kind| kind.mark() == mark)
             .ok_or(WRONG_MARK)?;
-        let fields = take(&mut rest, kind.fields())?;
-        add(&mut sheet, *kind, fields)?;
+        let fields = take(&mut rest, kind.field_count())?;
+        add_record(&mut sheet, *kind, fields)?;
         last = Some(*kind);
     }
     if rest.is_empty() {
@@ -167,31 +223,32 @@ fn take<'a>(rest: &mut &'a [u8], count: usize) -> Result<&'a [u8], Refusal> {
 }
 
 /// The records that may follow the last one.
-fn permitted(last: Option<Kind>, sheet: &Sheet) -> &'static [Kind] {
+fn permitted(last: Option<RecordKind>, sheet: &Sheet) -> &'static [RecordKind] {
+    use RecordKind::{Architecture, Automaton, Edge, End, Process};
     match last {
-        None => &[Kind::Architecture],
-        Some(Kind::Architecture) => &[Kind::Process],
-        Some(Kind::Process) if sheet.processes.len() == MOST_PROCESSES => &[Kind::Automaton],
-        Some(Kind::Process) => &[Kind::Process, Kind::Automaton],
-        Some(Kind::Automaton | Kind::Edge) if sheet.edges.len() == MOST_EDGES => &[Kind::End],
-        Some(Kind::Automaton | Kind::Edge) => &[Kind::Edge, Kind::End],
-        Some(Kind::End) => &[],
+        None => &[Architecture],
+        Some(Architecture) => &[Process],
+        Some(Process) if sheet.processes.len() == MOST_PROCESSES => &[Automaton],
+        Some(Process) => &[Process, Automaton],
+        Some(Automaton | Edge) if sheet.edges.len() == MOST_EDGES => &[End],
+        Some(Automaton | Edge) => &[Edge, End],
+        Some(End) => &[],
     }
 }
 
-fn add(sheet: &mut Sheet, kind: Kind, fields: &[u8]) -> Result<(), Refusal> {
+fn add_record(sheet: &mut Sheet, kind: RecordKind, fields: &[u8]) -> Result<(), Refusal> {
     match kind {
-        Kind::Architecture => add_architecture(sheet, fields),
-        Kind::Process => add_process(sheet, fields),
-        Kind::Automaton => add_automaton(sheet, fields),
-        Kind::Edge => add_edge(sheet, fields),
-        Kind::End => Ok(()),
+        RecordKind::Architecture => add_architecture(sheet, fields),
+        RecordKind::Process => add_process(sheet, fields),
+        RecordKind::Automaton => add_automaton(sheet, fields),
+        RecordKind::Edge => add_edge(sheet, fields),
+        RecordKind::End => Ok(()),
     }
 }
 
 /// The refusal, unless the rule is kept.
-fn keep(rule: bool, refusal: Refusal) -> Result<(), Refusal> {
-    if rule {
+fn require(rule_is_kept: bool, refusal: Refusal) -> Result<(), Refusal> {
+    if rule_is_kept {
         Ok(())
     } else {
         Err(refusal)
@@ -204,10 +261,10 @@ fn within(mask: u8, allowed: u8) -> bool {
 
 fn add_architecture(sheet: &mut Sheet, fields: &[u8]) -> Result<(), Refusal> {
     let (variables, environment, root) = (fields[0], fields[1], fields[2]);
-    keep(variables as usize <= MOST_VARIABLES, WRONG_ARCHITECTURE)?;
-    keep(environment as usize <= MOST_ENVIRONMENT, WRONG_ARCHITECTURE)?;
-    keep(environment <= variables, WRONG_ARCHITECTURE)?;
-    keep(within(root, mask_below(environment)), WRONG_ARCHITECTURE)?;
+    require(variables as usize <= MOST_VARIABLES, WRONG_ARCHITECTURE)?;
+    require(environment as usize <= MOST_ENVIRONMENT, WRONG_ARCHITECTURE)?;
+    require(environment <= variables, WRONG_ARCHITECTURE)?;
+    require(within(root, mask_below(environment)), WRONG_ARCHITECTURE)?;
     sheet.variables = variables;
     sheet.environment = environment;
     sheet.root = root;
@@ -217,34 +274,30 @@ fn add_architecture(sheet: &mut Sheet, fields: &[u8]) -> Result<(), Refusal> {
 fn add_process(sheet: &mut Sheet, fields: &[u8]) -> Result<(), Refusal> {
     let (inputs, outputs, bound) = (fields[0], fields[1], fields[2]);
     let all = mask_below(sheet.variables);
-    keep(within(inputs, all) && within(outputs, all), WRONG_PROCESS)?;
-    keep(outputs & mask_below(sheet.environment) == 0, WRONG_PROCESS)?;
-    keep(outputs & sheet.owned() == 0, WRONG_PROCESS)?;
-    keep(inputs & outputs == 0, WRONG_PROCESS)?;
-    keep(inputs.count_ones() <= MOST_INPUTS, WRONG_PROCESS)?;
-    keep((1..=MOST_BOUND).contains(&(bound as usize)), WRONG_PROCESS)?;
-    sheet.processes.push(Process {
-        inputs,
-        outputs,
-        bound,
-    });
+    require(within(inputs, all) && within(outputs, all), WRONG_PROCESS)?;
+    require(outputs & mask_below(sheet.environment) == 0, WRONG_PROCESS)?;
+    require(outputs & sheet.owned() == 0, WRONG_PROCESS)?;
+    require(inputs & outputs == 0, WRONG_PROCESS)?;
+    require(inputs.count_ones() <= MOST_INPUTS, WRONG_PROCESS)?;
+    require((1..=MOST_BOUND).contains(&(bound as usize)), WRONG_PROCESS)?;
+    sheet.processes.push(Process::new(inputs, outputs, bound));
     Ok(())
 }
 
 fn add_automaton(sheet: &mut Sheet, fields: &[u8]) -> Result<(), Refusal> {
     let known = mask_below(sheet.environment) | sheet.owned();
-    keep(known == mask_below(sheet.variables), WRONG_COMPOSITION)?;
-    keep(sheet.composed() <= MOST_COMPOSED, WRONG_COMPOSITION)?;
+    require(known == mask_below(sheet.variables), WRONG_COMPOSITION)?;
+    require(sheet.composed() <= MOST_COMPOSED, WRONG_COMPOSITION)?;
 
     let (states, initial) = (fields[0], fields[1]);
     let rejecting = u16::from_le_bytes([fields[2], fields[3]]);
-    keep(
+    require(
         (1..=MOST_STATES).contains(&(states as usize)),
         WRONG_AUTOMATON,
     )?;
-    keep(initial < states, WRONG_AUTOMATON)?;
+    require(initial < states, WRONG_AUTOMATON)?;
     // Wider than the mask, so that 16 states can be shifted out of it whole.
-    keep(u32::from(rejecting) >> states == 0, WRONG_AUTOMATON)?;
+    require(u32::from(rejecting) >> states == 0, WRONG_AUTOMATON)?;
     sheet.states = states;
     sheet.initial = initial;
     sheet.rejecting = rejecting;
@@ -254,9 +307,9 @@ fn add_automaton(sheet: &mut Sheet, fields: &[u8]) -> Result<(), Refusal> {
 fn add_edge(sheet: &mut Sheet, fields: &[u8]) -> Result<(), Refusal> {
     let (from, to, on, off) = (fields[0], fields[1], fields[2], fields[3]);
     let all = mask_below(sheet.variables);
-    keep(from < sheet.states && to < sheet.states, WRONG_EDGE)?;
-    keep(within(on, all) && within(off, all), WRONG_EDGE)?;
-    keep(on & off == 0, WRONG_EDGE)?;
-    sheet.edges.push(Edge { from, to, on, off });
+    require(from < sheet.states && to < sheet.states, WRONG_EDGE)?;
+    require(within(on, all) && within(off, all), WRONG_EDGE)?;
+    require(on & off == 0, WRONG_EDGE)?;
+    sheet.edges.push(Edge::new(from, to, on, off));
     Ok(())
 }

@@ -1,4 +1,4 @@
 pub mod Tables
-pub mod State
-pub mod Says
-pub mod Rises
+pub mod Relaxation
+pub mod Answers
+pub mod ValidTest

@@ -4,10 +4,11 @@ use mathlib.Core.List.{List, [], _∷_, map}
 use mathlib.Core.Option.{Option, none, some}
 use Prim.Native.Nat.{ℕ}
 use lib.ListN.{drop}
+use Rattle.model.specs.BenchCases.{choiceA}
 use Rattle.model.specs.Choice.{entries, values}
 use Rattle.model.specs.Computed.{keeps, firstChoice}
 use Rattle.model.proofs.SettlingOrder.{settle, try, settle-first, settle-cons, skip, hit}
-use Rattle.arbiter.specs.Arbiter.{arbiter, alternating}
+use Rattle.arbiter.specs.Arbiter.{arbiter}
 
 -- the values of an output mask
 abbrev masks : List ℕ
@@ -25,7 +26,7 @@ after₂ = states ∷ states ∷ states ∷ masks ∷ states ∷ states ∷ stat
 abbrev after₁ : List (List ℕ)
 after₁ = states ∷ after₂
 
-all-values : map values (entries arbiter) ≡ masks ∷ after₁
+all-values : map values (entries (arbiter .architecture)) ≡ masks ∷ after₁
 unfolding entries values arbiter
 all-values = refl
 
@@ -49,7 +50,7 @@ none-4-0 : behind₂ 4 0 ≡ none
 unfolding settle keeps arbiter
 none-4-0 = refl
 
-some-4-1 : behind₂ 4 1 ≡ some (drop 2 alternating)
+some-4-1 : behind₂ 4 1 ≡ some (drop 2 choiceA)
 unfolding settle keeps arbiter
 some-4-1 = refl
 
@@ -57,13 +58,13 @@ none-0 : behind₁ 0 ≡ none
 unfolding try
 none-0 = settle-cons states after₂ (λ c. keeps arbiter (0 ∷ c)) ∙ skip 0 (1 ∷ []) (behind₂ 0) none-0-0 ∙ skip 1 [] (behind₂ 0) none-0-1
 
-some-4 : behind₁ 4 ≡ some (drop 1 alternating)
+some-4 : behind₁ 4 ≡ some (drop 1 choiceA)
 some-4 = settle-cons states after₂ (λ c. keeps arbiter (4 ∷ c)) ∙ skip 0 (1 ∷ []) (behind₂ 4) none-4-0 ∙ hit 1 [] (behind₂ 4) _ some-4-1
 
-pub first-alternating : firstChoice arbiter ≡ some alternating
+pub first-is-A : firstChoice arbiter ≡ some choiceA
 unfolding firstChoice
-first-alternating =
-    sym (settle-first (entries arbiter) (keeps arbiter))
+first-is-A =
+    sym (settle-first (entries (arbiter .architecture)) (keeps arbiter))
     ∙ ap (λ (vss : List (List ℕ)). settle vss (keeps arbiter)) all-values
     ∙ settle-cons masks after₁ (keeps arbiter)
     ∙ skip 0 (4 ∷ 8 ∷ 12 ∷ []) behind₁ none-0

@@ -1,21 +1,19 @@
 // Books: writing tables, reading them back, and the part of one process.
 ghost use mathlib.Core.Path.{_≡_};
-ghost use Prim.Native.Nat.{_+_, _*_, _-_, _≤_, _<_};
+ghost use Prim.Native.Nat.{_≤_};
 ghost use lib.ListN.{length};
 ghost use Rattle.model.specs.Book as model;
-ghost use Rattle.model.specs.Sheet.{refused};
-ghost use Rattle.model.specs.Calls.{wrote, gave, cut};
-ghost use Rattle.composition.specs.Struct.{sheetWith, processesIn};
-ghost use Rattle.composition.specs.Struct.{Sized as Whole};
-ghost use Rattle.book.specs.Answers.{afterRead, afterPart, writtenBy, fittingBy, partBy};
+ghost use Rattle.model.specs.Reading.{refused};
+ghost use Rattle.model.specs.Calls.{writtenFor, wrote, gave, partFor, cut};
+ghost use Rattle.architecture.specs.Struct.{IsProper, architectureOf, processesIn};
+ghost use Rattle.book.specs.Answers.{afterRead, afterPart, fittingBy};
 
 mod walk;
 
-use composition::Architecture;
+use architecture::Architecture;
 use model::Refusal;
 use model::Reply;
 use walk::is_malformed;
-use walk::is_misfit;
 use walk::put_bytes;
 use walk::take_entries;
 
@@ -34,13 +32,11 @@ pub struct Part {
 
 // Of a proper sheet: the book of the tables goes to the front of the buffer.
 pub fn write_for(a: Architecture, tables: &[u8; 272], book: &mut [u8]) -> Reply
-    requires { ⌜ Whole a ⌝ }
-    ensures { λ r. ⌜ r ≡ wrote (writtenBy (sheetWith a) (now (tables .entry)) (now (book .entry))) (now (book .entry)) .answer ⌝ }
-    ensures { λ _. ⌜ now (book .exit) ≡ wrote (writtenBy (sheetWith a) (now (tables .entry)) (now (book .entry))) (now (book .entry)) .book ⌝ }
+    requires { ⌜ IsProper a ⌝ }
+    ensures { λ r. ⌜ r ≡ wrote (writtenFor (architectureOf a) (now (tables .entry)) (now (book .entry))) (now (book .entry)) .answer ⌝ }
+    ensures { λ _. ⌜ now (book .exit) ≡ wrote (writtenFor (architectureOf a) (now (tables .entry)) (now (book .entry))) (now (book .entry)) .book ⌝ }
 {
-    let mut kinds = [0u16; 272];
-    let entries = layout::fill_kinds(&mut kinds, a);
-    if is_misfit(&kinds, entries, tables) {
+    if choice::entry_fault(a, tables) {
         return Reply::Refused(Refusal::BadEntry);
     }
     let mut slots = [0u16; 338];
@@ -64,13 +60,11 @@ pub fn unread(refusal: Refusal) -> TablesRead
 
 // The tables, unless an entry has a value that it may not have.
 fn fitting(a: Architecture, tables: [u8; 272]) -> TablesRead
-    requires { ⌜ Whole a ⌝ }
+    requires { ⌜ IsProper a ⌝ }
     requires { ⌜ length tables ≡ 272 ⌝ }
-    ensures { λ r. ⌜ afterRead r ≡ fittingBy (sheetWith a) tables ⌝ }
+    ensures { λ r. ⌜ afterRead r ≡ fittingBy (architectureOf a) tables ⌝ }
 {
-    let mut kinds = [0u16; 272];
-    let entries = layout::fill_kinds(&mut kinds, a);
-    if is_misfit(&kinds, entries, &tables) {
+    if choice::entry_fault(a, &tables) {
         return unread(Refusal::BadEntry);
     }
     TablesRead {
@@ -81,8 +75,8 @@ fn fitting(a: Architecture, tables: [u8; 272]) -> TablesRead
 
 // Of a proper sheet: the tables of the book.
 pub fn read_for(a: Architecture, book: &[u8]) -> TablesRead
-    requires { ⌜ Whole a ⌝ }
-    ensures { λ r. ⌜ afterRead r ≡ gave (model.readBook (sheetWith a) (now (book .entry))) ⌝ }
+    requires { ⌜ IsProper a ⌝ }
+    ensures { λ r. ⌜ afterRead r ≡ gave (model.readBook (architectureOf a) (now (book .entry))) ⌝ }
 {
     let mut slots = [0u16; 338];
     let n = layout::fill_slots(&mut slots, a);
@@ -96,14 +90,14 @@ pub fn read_for(a: Architecture, book: &[u8]) -> TablesRead
 
 // Where the records of process i begin.
 fn part_start(a: Architecture, i: usize) -> usize
-    requires { ⌜ Whole a ⌝ }
+    requires { ⌜ IsProper a ⌝ }
     requires { ⌜ i ≤ a .processes ⌝ }
     ensures { λ r. ⌜ r ≡ model.partStart (processesIn a) i ⌝ }
 {
     let mut at: usize = 0;
     let mut k: usize = 0;
     while k < i {
-        at += a.bound_of(k) * (4 + composition::row_length(a.inputs_of(k)));
+        at += a.bound_of(k) * (4 + architecture::row_length(a.inputs_of(k)));
         k += 1;
     }
     at
@@ -122,8 +116,8 @@ pub fn nowhere(refusal: Refusal) -> Part
 
 // Of a proper sheet: where the records of process i are in the book.
 pub fn range_for(a: Architecture, book: &[u8], i: usize) -> Part
-    requires { ⌜ Whole a ⌝ }
-    ensures { λ r. ⌜ afterPart r ≡ cut (partBy (sheetWith a) (now (book .entry)) i) i ⌝ }
+    requires { ⌜ IsProper a ⌝ }
+    ensures { λ r. ⌜ afterPart r ≡ cut (partFor (architectureOf a) (now (book .entry)) i) i ⌝ }
 {
     let n = a.processes;
     if n <= i {

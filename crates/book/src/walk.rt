@@ -1,15 +1,13 @@
-// Along the words of a layout: the test of a book, its entries, the test of entries, and the bytes of a book.
+// Along the words of a layout: the test of a book, its entries, and its bytes.
 ghost use mathlib.Core.Path.{_≡_};
 ghost use mathlib.Core.Bool.{not};
-ghost use mathlib.Core.List.{_∷_, [], _++_};
+ghost use mathlib.Core.List.{_∷_, []};
 ghost use Prim.Native.Nat.{_+_, _<_, _≤_};
-ghost use lib.ListN.{length, take, drop};
-ghost use Rattle.model.specs.Choice.{fits};
-ghost use Rattle.model.specs.Book.{wellFormed, entriesIn, filled};
+ghost use lib.ListN.{length, drop};
+ghost use Rattle.model.specs.Book.{holes, wellFormed, entriesIn, filled};
 ghost use Rattle.model.specs.Calls.{front};
-ghost use Rattle.model.proofs.BookInverse.{holes};
-ghost use Rattle.layout.specs.Codes.{slotOf, slotsOf, kindsOf};
-use layout::may_be;
+ghost use Rattle.append.specs.Appends.{Appends};
+ghost use Rattle.layout.specs.Slots.{slotOf, slotsOf};
 
 // The byte is not the one that is due.
 fn differs(slot: u16, byte: u8) -> bool
@@ -39,11 +37,10 @@ pub fn is_malformed(slots: &[u16], n: usize, book: &[u8]) -> bool
     false
 }
 
-// Puts the byte at e if the slot is an entry, and answers where the next entry goes.
+// The byte goes to e if the slot is an entry: answers where the next entry goes.
 fn take_entry(tables: &mut [u8], e: usize, slot: u16, byte: u8) -> usize
     requires { ⌜ e + length (entriesIn (slotOf slot ∷ []) (byte ∷ [])) ≤ length (now tables) ⌝ }
-    ensures { λ r. ⌜ r ≡ e + length (entriesIn (slotOf slot ∷ []) (byte ∷ [])) ⌝ }
-    ensures { λ r. ⌜ now (tables .exit) ≡ take e (now (tables .entry)) ++ entriesIn (slotOf slot ∷ []) (byte ∷ []) ++ drop r (now (tables .entry)) ⌝ }
+    ensures { λ r. ⌜ Appends (now (tables .entry)) e (entriesIn (slotOf slot ∷ []) (byte ∷ [])) r (now (tables .exit)) ⌝ }
 {
     if slot != 0 {
         return e;
@@ -64,21 +61,6 @@ pub fn take_entries(tables: &mut [u8], slots: &[u16], n: usize, book: &[u8])
         e = take_entry(tables, e, slots[k], book[k]);
         k += 1;
     }
-}
-
-// 11: an entry has a value that it may not have.
-pub fn is_misfit(kinds: &[u16], n: usize, tables: &[u8]) -> bool
-    requires { ⌜ (n ≤ length (now kinds)) × (n ≤ length (now tables)) ⌝ }
-    ensures { λ r. ⌜ r ≡ not (fits (kindsOf (now (kinds .entry)) n) (now (tables .entry))) ⌝ }
-{
-    let mut k: usize = 0;
-    while k < n {
-        if !may_be(kinds[k], tables[k]) {
-            return true;
-        }
-        k += 1;
-    }
-    false
 }
 
 // The byte of a book at this slot, whose entry, if it is one, is the next.

@@ -2,10 +2,12 @@
 ghost use Prim.Native.Nat.{_<_, _≤_};
 ghost use lib.ListN.{length};
 ghost use Rattle.model.specs.Choice.{entries as entriesOf};
-ghost use Rattle.model.proofs.ProperSheet.{Good};
-ghost use Rattle.sheet.specs.Struct.{sheetOf, Sized as Whole};
-ghost use Rattle.composition.specs.Struct.{Sized, sheetWith};
-use composition::Architecture;
+ghost use Rattle.automaton.specs.Struct.{Arrays};
+ghost use Rattle.sheet.specs.Struct.{IsProper as Proper};
+ghost use Rattle.architecture.specs.Struct.{IsProper, architectureOf};
+use architecture::Architecture;
+use automaton::Automaton;
+use automaton::Edge;
 use libc::STDIN_FILENO;
 use libc::STDOUT_FILENO;
 use model::ProcessState;
@@ -85,24 +87,18 @@ fn print_label(on: u8, off: u8) {
     print_variables(off, b"!", on == 0);
 }
 
-fn draw_edge(from: usize, to: usize, on: u8, off: u8) {
-    open_arrow(from, to);
-    print_label(on, off);
+fn draw_edge(edge: Edge) {
+    open_arrow(edge.from as usize, edge.to as usize);
+    print_label(edge.on, edge.off);
     close_arrow();
 }
 
-fn draw_edges(sheet: Sheet)
-    requires { ⌜ Good (sheetOf sheet) ⌝ }
-    requires { ⌜ Whole sheet ⌝ }
+fn draw_edges(automaton: Automaton)
+    requires { ⌜ Arrays automaton ⌝ }
 {
-    let from = sheet.from;
-    let to = sheet.to;
-    let on = sheet.on;
-    let off = sheet.off;
-    let n = sheet.edges;
     let mut k: usize = 0;
-    while k < n {
-        draw_edge(from[k] as usize, to[k] as usize, on[k], off[k]);
+    while k < automaton.edges {
+        draw_edge(automaton.edge(k));
         k += 1;
     }
 }
@@ -128,39 +124,38 @@ fn draw_states(states: u8, rejecting: u16) {
 }
 
 // The initial state has an arrow from a point.
-fn draw_automaton(sheet: Sheet)
-    requires { ⌜ Good (sheetOf sheet) ⌝ }
-    requires { ⌜ Whole sheet ⌝ }
+fn draw_automaton(automaton: Automaton)
+    requires { ⌜ Arrays automaton ⌝ }
 {
     print(b"digraph automaton {\n    rankdir=LR;\n    start [shape=point];\n    start -> ");
-    print_number(sheet.initial as usize);
+    print_number(automaton.initial as usize);
     print(b";\n");
-    draw_states(sheet.states, sheet.rejecting);
-    draw_edges(sheet);
+    draw_states(automaton.states, automaton.rejecting);
+    draw_edges(automaton);
     print(b"}\n");
 }
 
 // ---- the tables
-// One place that leads from state x to y: the first opens the line, the others are parted by a space.
-fn print_place(is_first: bool, x: usize, y: usize, place: usize) {
+// One index that leads from state x to y: the first opens the line, the others are parted by a space.
+fn print_index(is_first: bool, x: usize, y: usize, index: usize) {
     if is_first {
         open_arrow(x, y);
     } else {
         print(b" ");
     }
-    print_number(place);
+    print_number(index);
 }
 
-// One arrow for all places that lead from state x to y; none where no place does.
+// One arrow for all indexes that lead from state x to y; none where no index does.
 fn draw_arrow(x: usize, y: usize, next: &[u8]) {
     let mut is_first = true;
-    let mut place: usize = 0;
-    while place < next.len() {
-        if next[place] as usize == y {
-            print_place(is_first, x, y, place);
+    let mut index: usize = 0;
+    while index < next.len() {
+        if next[index] as usize == y {
+            print_index(is_first, x, y, index);
             is_first = false;
         }
-        place += 1;
+        index += 1;
     }
     if !is_first {
         close_arrow();
@@ -192,11 +187,11 @@ fn draw_row(x: usize, bound: usize, row: &[u8])
 
 // The rows of process i.
 fn draw_rows(a: Architecture, i: usize, tables: &[u8])
-    requires { ⌜ Sized a ⌝ }
+    requires { ⌜ IsProper a ⌝ }
     requires { ⌜ i < a .processes ⌝ }
-    requires { ⌜ length (entriesOf (sheetWith a)) ≤ length (now tables) ⌝ }
+    requires { ⌜ length (entriesOf (architectureOf a)) ≤ length (now tables) ⌝ }
 {
-    let row = composition::row_length(a.inputs_of(i));
+    let row = architecture::row_length(a.inputs_of(i));
     let bound = a.bound_of(i);
     let mut x: usize = 0;
     while x < bound {
@@ -208,9 +203,9 @@ fn draw_rows(a: Architecture, i: usize, tables: &[u8])
 }
 
 fn draw_table(a: Architecture, i: usize, tables: &[u8])
-    requires { ⌜ Sized a ⌝ }
+    requires { ⌜ IsProper a ⌝ }
     requires { ⌜ i < a .processes ⌝ }
-    requires { ⌜ length (entriesOf (sheetWith a)) ≤ length (now tables) ⌝ }
+    requires { ⌜ length (entriesOf (architectureOf a)) ≤ length (now tables) ⌝ }
 {
     print(b"digraph process_");
     print_number(i);
@@ -220,7 +215,7 @@ fn draw_table(a: Architecture, i: usize, tables: &[u8])
 }
 
 fn draw_tables(a: Architecture, tables: &[u8; 272])
-    requires { ⌜ Sized a ⌝ }
+    requires { ⌜ IsProper a ⌝ }
 {
     let n = a.processes;
     let mut i: usize = 0;
@@ -239,16 +234,16 @@ fn print_refused(refusal: Refusal) {
 
 // The book is read before anything is drawn, so that a refusal is the only line.
 fn draw_book(sheet: Sheet, book: &[u8])
-    requires { ⌜ Good (sheetOf sheet) ⌝ }
-    requires { ⌜ Whole sheet ⌝ }
+    requires { ⌜ Proper sheet ⌝ }
 {
-    let a = Architecture::of(sheet);
+    let a = sheet.architecture;
+    let automaton = sheet.automaton;
     let reading = book::read_for(a, book);
     let answer = reading.answer;
     match answer {
         Reply::Refused(refusal) => print_refused(refusal),
         Reply::Done => {
-            draw_automaton(sheet);
+            draw_automaton(automaton);
             let tables = reading.tables;
             draw_tables(a, &tables);
         }
@@ -257,8 +252,7 @@ fn draw_book(sheet: Sheet, book: &[u8])
 
 // With the book in this file.
 fn draw_file(sheet: Sheet, path: &[u8])
-    requires { ⌜ Good (sheetOf sheet) ⌝ }
-    requires { ⌜ Whole sheet ⌝ }
+    requires { ⌜ Proper sheet ⌝ }
 {
     let file = os::open_read(path);
     if file < 0 {
@@ -273,11 +267,11 @@ fn draw_file(sheet: Sheet, path: &[u8])
 
 // With the book that the first argument names, if there is one.
 fn draw_proper(sheet: Sheet)
-    requires { ⌜ Good (sheetOf sheet) ⌝ }
-    requires { ⌜ Whole sheet ⌝ }
+    requires { ⌜ Proper sheet ⌝ }
 {
     if os::arg_count() < 2 {
-        draw_automaton(sheet);
+        let automaton = sheet.automaton;
+        draw_automaton(automaton);
         return;
     }
     let mut path = io::buffer();

@@ -12,16 +12,17 @@ use Rattle.model.specs.declared.Refusal.{Refusal}
 use Rattle.model.specs.declared.Refusal.the-variants.{BookBufferTooShort, AnnotationBufferTooShort}
 use Rattle.model.specs.declared.Outcome.{Outcome}
 use Rattle.model.specs.declared.Reply.{Reply}
-use Rattle.model.specs.Sheet as model
-use Rattle.model.specs.Sheet.{Sheet, refused, proper, refuse_when_else_, _then_, readSheet}
+use Rattle.model.specs.Reading as model
+use Rattle.model.specs.Sheet.{Architecture, Sheet, ProperSheet}
+use Rattle.model.specs.Reading.{refused, proper, refuse_when_else_, _then_, readSheet}
 use Rattle.model.specs.Compose.{T}
 use Rattle.model.specs.Choice.{entries, IsChoice}
 use Rattle.model.specs.RunGraph.{vertices, blank}
 use Rattle.model.specs.Computed.{runGraph, annotation, keeps, firstChoice}
 use Rattle.model.specs.Book.{form, bookLength, bookOf, readBook}
-use Rattle.model.specs.Calls.{AfterFind, AfterRead, front, bookShort, annotationShort, findSheet, findChoice, findIn, findOf, tablesOf, gave}
+use Rattle.model.specs.Calls.{AfterFind, AfterRead, front, bookShort, annotationShort, roomToFind, findSheet, findChoice, findIn, findOf, tablesOf, gave}
 use Rattle.model.specs.Numbers.{number}
-use Rattle.model.proofs.ProperSheet.{passes, goes-on, Good, sheet-good}
+use Rattle.model.proofs.ProperSheet.{passes, goes-on, sheet-proper}
 use Rattle.model.proofs.Sizes.{book-short}
 use Rattle.model.proofs.BookInverse.{filled-length}
 use Rattle.model.proofs.DemandTwo.{written-is-read}
@@ -29,29 +30,25 @@ use Rattle.model.proofs.FirstInOrder.{first-some, entries-small}
 use Rattle.sheet.specs.declared.Sheet as sheets
 use Rattle.sheet.specs.declared.Reading.{Reading}
 use Rattle.sheet.specs.Struct.{sheetOf, readingAs, readingOf}
-use Rattle.composition.specs.declared.Architecture.{Architecture}
-use Rattle.composition.specs.Struct.{ArchitectureOf, sheetWith}
-use Rattle.composition.proofs.Sheets.{same-entries, same-T}
 use Rattle.book.specs.declared.TablesRead.{TablesRead}
 use Rattle.book.specs.Answers.{afterRead}
-use Rattle.book.proofs.Same.{same-book}
 use Rattle.graph.proofs.Chosen.{chosen-tables}
 use Rattle.graph.proofs.Whole.{vertices-few}
 use Rattle.text.specs.Text.{textOf, noneText, refusedText}
-use Rattle.text.proofs.Same.{same-text, text-front}
+use Rattle.text.proofs.TextReads.{text-front}
 use Rattle.find.specs.Printed.{choiceText, sheetText, printed, found}
 
 -- the choice whose book and annotation the buffers have at the front
 pub record Chose (s : Sheet) (book ann : List ℕ) : Type 0 where
   pub choice : List ℕ
   pub first : firstChoice s ≡ some choice
-  pub is-choice : IsChoice s choice
-  pub book-is : take (bookLength s) book ≡ bookOf s choice
+  pub is-choice : IsChoice (s .architecture) choice
+  pub book-is : take (bookLength (s .architecture)) book ≡ bookOf (s .architecture) choice
   pub annotation-is : take (vertices s) ann ≡ annotation s choice
 
-book-length : (s : Sheet) (c : List ℕ) → length (bookOf s c) ≡ bookLength s
+book-length : (a : Architecture) (c : List ℕ) → length (bookOf a c) ≡ bookLength a
 unfolding bookOf bookLength
-book-length s c = filled-length (form s) c
+book-length a c = filled-length (form a) c
 
 annotation-whole : (s : Sheet) (c : List ℕ) → length (annotation s c) ≡ vertices s
 unfolding annotation runGraph
@@ -61,14 +58,14 @@ front-is : (new old : List ℕ) (n : ℕ) → length new ≡ n → take n (front
 unfolding front
 front-is new old n e = take-at new (drop (length new) old) n e
 
-first-fits : (s : Sheet) (c : List ℕ) → Good s → firstChoice s ≡ some c → IsChoice s c
+first-fits : (s : Sheet) (c : List ℕ) → ProperSheet s → firstChoice s ≡ some c → IsChoice (s .architecture) c
 unfolding firstChoice
-first-fits s c g e = first-some (entries s) (keeps s) c (entries-small s g) e .fitting
+first-fits s c g e = first-some (entries (s .architecture)) (keeps s) c (entries-small (s .architecture) (g .architecture)) e .fitting
 
 nothing≢tables : ¬ (Outcome.Nothing ≡ Outcome.Tables)
 nothing≢tables e = let z : _≡_ {A = ℕ} 0 1 = cc in omega arith
 
-pub chose : (s : Sheet) (old-book old-ann book ann : List ℕ) → Good s → findChoice s (firstChoice s) old-book old-ann ≡ found book ann → Chose s book ann
+pub chose : (s : Sheet) (old-book old-ann book ann : List ℕ) → ProperSheet s → findChoice s (firstChoice s) old-book old-ann ≡ found book ann → Chose s book ann
 unfolding findChoice
 chose s old-book old-ann book ann g f = by (firstChoice s) refl f
   where
@@ -78,17 +75,17 @@ chose s old-book old-ann book ann g f = by (firstChoice s) refl f
       choice = c;
       first = e;
       is-choice = first-fits s c g e;
-      book-is = ap (λ (a : AfterFind). take (bookLength s) (a .book)) (sym f) ∙ front-is (bookOf s c) old-book (bookLength s) (book-length s c);
+      book-is = ap (λ (a : AfterFind). take (bookLength (s .architecture)) (a .book)) (sym f) ∙ front-is (bookOf (s .architecture) c) old-book (bookLength (s .architecture)) (book-length (s .architecture) c);
       annotation-is = ap (λ (a : AfterFind). take (vertices s) (a .annotation)) (sym f) ∙ front-is (annotation s c) old-ann (vertices s) (annotation-whole s c);
     }
 
 -- ---- what find answers with buffers that are long enough
 module _ (b old-book old-ann : List ℕ) (book-room : 338 ≤ length old-book) (ann-room : 4096 ≤ length old-ann) where
   find-proper : (s : Sheet) → readSheet b ≡ proper s → findOf b old-book old-ann ≡ findChoice s (firstChoice s) old-book old-ann
-  unfolding findOf findIn findSheet bookShort annotationShort _then_ refuse_when_else_
+  unfolding findOf findIn findSheet roomToFind bookShort annotationShort _then_ refuse_when_else_
   find-proper s e =
-      let g : Good s = sheet-good b s e in
-      rw (e, le-ltb (length old-book) (bookLength s) (omega (arith, book-short s g)), le-ltb (length old-ann) (vertices s) (omega (arith, vertices-few s g)))
+      let g : ProperSheet s = sheet-proper b s e in
+      rw (e, le-ltb (length old-book) (bookLength (s .architecture)) (omega (arith, book-short (s .architecture) (g .architecture))), le-ltb (length old-ann) (vertices s) (omega (arith, vertices-few s g)))
 
   find-refused : (q : Refusal) → readSheet b ≡ refused q → findOf b old-book old-ann .answer ≡ Outcome.Refused q
   unfolding findOf findIn findSheet _then_
@@ -140,10 +137,10 @@ same-sheet : (s s′ : Sheet) → proper s ≡ proper s′ → s ≡ s′
 same-sheet s s′ e = cc
 
 not-refused : (b old-book old-ann : List ℕ) (s : Sheet) → findSheet b old-book old-ann ≡ proper s → readSheet b ≡ proper s
-unfolding findSheet
+unfolding findSheet roomToFind
 not-refused b old-book old-ann s e =
     let h₁ = goes-on (readSheet b) _ e in
-    let h₂ = passes BookBufferTooShort (bookShort (h₁ .0) old-book) _ (h₁ .2) in
+    let h₂ = passes BookBufferTooShort (bookShort (h₁ .0 .architecture) old-book) _ (h₁ .2) in
     let h₃ = passes AnnotationBufferTooShort (annotationShort (h₁ .0) old-ann) _ (h₂ .1) in
     h₁ .1 ∙ h₃ .1
 
@@ -162,37 +159,32 @@ found-proper b old-book old-ann book ann r e f = by (findSheet b old-book old-an
         let read = not-refused b old-book old-ann s h in
         rw (reading-is (r .answer) (r .sheet) s (e ∙ read)) record { is = read; finds = f }
 
-module _ (s : Sheet) (a : Architecture) (is : ArchitectureOf s a) (book ann : List ℕ) (h : Chose s book ann) where
+module _ (s : Sheet) (book ann : List ℕ) (h : Chose s book ann) where
   -- where the book ends
-  pub same-length : bookLength (sheetWith a) ≡ bookLength s
-  unfolding bookLength form sheetWith
-  same-length = rw (is .processes)
-
-  pub book-whole : (n : ℕ) → n ≡ bookLength (sheetWith a) → n ≡ length (take n book)
-  book-whole n e = let l : length (take (bookLength s) book) ≡ bookLength s = ap length (h .book-is) ∙ book-length s (h .choice) in rw (e ∙ same-length) (sym l)
+  pub book-whole : (n : ℕ) → n ≡ bookLength (s .architecture) → n ≡ length (take n book)
+  book-whole n e = rw e (sym (ap length (h .book-is) ∙ book-length (s .architecture) (h .choice)))
 
   -- where the annotation ends
-  pub annotation-ends : (n : ℕ) → n ≡ T (sheetWith a) → s .states * n ≡ vertices s
+  pub annotation-ends : (n : ℕ) → n ≡ T (s .architecture) → s .automaton .states * n ≡ vertices s
   unfolding vertices
-  annotation-ends n e = rw (e ∙ same-T s a is)
+  annotation-ends n e = rw e
 
   pub annotation-counted : (n : ℕ) → n ≡ vertices s → n ≡ length (take n ann)
-  annotation-counted n e = let l : length (take (vertices s) ann) ≡ vertices s = ap length (h .annotation-is) ∙ annotation-whole s (h .choice) in rw e (sym l)
+  annotation-counted n e = rw e (sym (ap length (h .annotation-is) ∙ annotation-whole s (h .choice)))
 
   -- the tables that are read back
-  module _ (n : ℕ) (e : n ≡ bookLength (sheetWith a)) (r : TablesRead) (q : afterRead r ≡ gave (readBook (sheetWith a) (take n book))) where
+  module _ (n : ℕ) (e : n ≡ bookLength (s .architecture)) (r : TablesRead) (q : afterRead r ≡ gave (readBook (s .architecture) (take n book))) where
     pub tables-are : r .tables ≡ tablesOf (h .choice)
     unfolding gave
     tables-are =
-        let same : take n book ≡ bookOf s (h .choice) = ap (λ (k : ℕ). take k book) (e ∙ same-length) ∙ h .book-is in
-        let read : readBook (sheetWith a) (take n book) ≡ proper (h .choice) = same-book s a is (take n book) ∙ ap (readBook s) same ∙ written-is-read s (h .choice) (h .is-choice) in
+        let same : take n book ≡ bookOf (s .architecture) (h .choice) = ap (λ (k : ℕ). take k book) e ∙ h .book-is in
+        let read : readBook (s .architecture) (take n book) ≡ proper (h .choice) = ap (readBook (s .architecture)) same ∙ written-is-read (s .architecture) (h .choice) (h .is-choice) in
         ap (λ (x : AfterRead). x .tables) (q ∙ ap gave read)
 
-    pub are-choice : IsChoice (sheetWith a) (take (length (entries (sheetWith a))) (r .tables))
-    are-choice = rw (same-entries s a is, tables-are) (subst (IsChoice s) (sym (chosen-tables s (h .choice) (h .is-choice))) (h .is-choice))
+    pub are-choice : IsChoice (s .architecture) (take (length (entries (s .architecture))) (r .tables))
+    are-choice = rw tables-are (subst (IsChoice (s .architecture)) (sym (chosen-tables (s .architecture) (h .choice) (h .is-choice))) (h .is-choice))
 
-    pub text-is : (v : ℕ) → v ≡ vertices s → textOf (sheetWith a) (r .tables) (take v ann) ≡ choiceText s (firstChoice s)
+    pub text-is : (v : ℕ) → v ≡ vertices s → textOf (s .architecture) (r .tables) (take v ann) ≡ choiceText s (firstChoice s)
     unfolding choiceText tablesOf front
     text-is v ev =
-        same-text s a is (r .tables) (take v ann)
-        ∙ rw (tables-are, ev, h .annotation-is, h .first) (text-front (h .choice) (drop (length (h .choice)) (replicate 272 0)) s (annotation s (h .choice)) (h .is-choice))
+        rw (tables-are, ev, h .annotation-is, h .first) (text-front (h .choice) (drop (length (h .choice)) (replicate 272 0)) (s .architecture) (annotation s (h .choice)) (h .is-choice))

@@ -4,7 +4,8 @@ use mathlib.Core.Option.{Option, none, some}
 use Prim.Native.Nat.{ℕ}
 use lib.ListN.{replicate}
 use Rattle.model.specs.declared.Outcome.{Outcome}
-use Rattle.model.specs.Sheet.{Sheet, Reading, refused, proper, readSheet}
+use Rattle.model.specs.Sheet.{Sheet}
+use Rattle.model.specs.Reading.{Reading, refused, proper, readSheet}
 use Rattle.model.specs.Computed.{annotation, firstChoice}
 use Rattle.model.specs.Calls.{AfterFind}
 use Rattle.model.specs.Numbers.{number}
@@ -13,7 +14,7 @@ use Rattle.text.specs.Text.{textOf, noneText, refusedText}
 -- the first choice that keeps the sheet, with its annotation; or `none`
 unfoldable pub choiceText : Sheet → Option (List ℕ) → List ℕ
 choiceText s none = noneText
-choiceText s (some c) = textOf s c (annotation s c)
+choiceText s (some c) = textOf (s .architecture) c (annotation s c)
 
 -- unless the sheet is refused
 unfoldable pub sheetText : Reading Sheet → List ℕ

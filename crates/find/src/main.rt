@@ -2,11 +2,9 @@
 ghost use mathlib.Core.Path.{_≡_};
 ghost use Rattle.model.specs.Computed.{firstChoice};
 ghost use Rattle.model.specs.Calls.{findChoice, findOf};
-ghost use Rattle.model.proofs.ProperSheet.{Good};
-ghost use Rattle.sheet.specs.Struct.{sheetOf, Sized};
-ghost use Rattle.text.specs.Puts.{Holds};
+ghost use Rattle.sheet.specs.Struct.{sheetOf, IsProper};
+ghost use Rattle.text.specs.Holds.{Holds};
 ghost use Rattle.find.specs.Printed.{choiceText, printed, found, book₀, annotation₀};
-use composition::Architecture;
 use libc::STDIN_FILENO;
 use libc::STDOUT_FILENO;
 use model::Outcome;
@@ -17,17 +15,17 @@ const ROOM: usize = 418;
 
 // Of a proper sheet: the text of the tables that find put into the book.
 fn choice_text(text: &mut [u8; 1024], sheet: Sheet, book: &[u8], annotation: &[u16]) -> usize
-    requires { ⌜ Good (sheetOf sheet) ⌝ }
-    requires { ⌜ Sized sheet ⌝ }
+    requires { ⌜ IsProper sheet ⌝ }
     requires { ⌜ findChoice (sheetOf sheet) (firstChoice (sheetOf sheet)) book₀ annotation₀ ≡ found (now book) (now annotation) ⌝ }
     ensures { λ r. ⌜ Holds (now (text .exit)) r (choiceText (sheetOf sheet) (firstChoice (sheetOf sheet))) ⌝ }
 {
-    let a = Architecture::of(sheet);
+    let a = sheet.architecture;
+    let automaton = sheet.automaton;
     let mut slots = [0u16; 338];
     let length = layout::fill_slots(&mut slots, a);
     let read = book::read_for(a, &book[..length]);
     let tables = read.tables;
-    let vertices = sheet.states as usize * a.composed_states();
+    let vertices = automaton.states as usize * a.composed_states();
     text::tables_text(text, a, &tables, &annotation[..vertices])
 }
 

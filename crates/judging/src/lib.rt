@@ -2,14 +2,11 @@
 ghost use mathlib.Core.Path.{_≡_};
 ghost use Prim.Native.Nat.{_≤_};
 ghost use lib.ListN.{length, take};
-ghost use Rattle.model.specs.Choice.{IsChoice};
-ghost use Rattle.model.specs.Calls.{front, judged, annotated};
-ghost use Rattle.model.proofs.ProperSheet.{Good};
-ghost use Rattle.sheet.specs.Struct.{sheetOf, Sized};
-ghost use Rattle.graph.specs.Filled.{chosen};
-ghost use Rattle.judging.specs.Room.{roomFor, bookFor};
+ghost use Rattle.model.specs.Choice.{IsChoice, chosen};
+ghost use Rattle.model.specs.Calls.{front, roomFor, bookFor, judged, annotated};
+ghost use Rattle.architecture.specs.Struct.{architectureOf};
+ghost use Rattle.sheet.specs.Struct.{sheetOf, IsProper};
 use annotation::Answer;
-use composition::Architecture;
 use model::Finding;
 use model::Refusal;
 use model::Reply;
@@ -18,10 +15,9 @@ use sheet::Sheet;
 
 // Of the tables of a choice: is the annotation valid?
 fn judge_tables(sheet: Sheet, tables: &[u8], annotation: &[u16]) -> Verdict
-    requires { ⌜ Good (sheetOf sheet) ⌝ }
-    requires { ⌜ Sized sheet ⌝ }
-    requires { ⌜ IsChoice (sheetOf sheet) (chosen (sheetOf sheet) (now tables)) ⌝ }
-    ensures { λ r. ⌜ r ≡ judged (roomFor (sheetOf sheet) (chosen (sheetOf sheet) (now (tables .entry))) (now (annotation .entry))) (now (annotation .entry)) ⌝ }
+    requires { ⌜ IsProper sheet ⌝ }
+    requires { ⌜ IsChoice (architectureOf (sheet .architecture)) (chosen (architectureOf (sheet .architecture)) (now tables)) ⌝ }
+    ensures { λ r. ⌜ r ≡ judged (roomFor (sheetOf sheet) (chosen (architectureOf (sheet .architecture)) (now (tables .entry))) (now (annotation .entry))) (now (annotation .entry)) ⌝ }
 {
     let mut targets = [0u16; 4096];
     let mut steps = [0u16; 4096];
@@ -37,11 +33,11 @@ fn judge_tables(sheet: Sheet, tables: &[u8], annotation: &[u16]) -> Verdict
 
 // Of a proper sheet: is the annotation of the book valid?
 pub fn judge_for(sheet: Sheet, book: &[u8], annotation: &[u16]) -> Verdict
-    requires { ⌜ Good (sheetOf sheet) ⌝ }
-    requires { ⌜ Sized sheet ⌝ }
+    requires { ⌜ IsProper sheet ⌝ }
     ensures { λ r. ⌜ r ≡ judged (bookFor (sheetOf sheet) (now (book .entry)) (now (annotation .entry))) (now (annotation .entry)) ⌝ }
 {
-    let read = book::read_for(Architecture::of(sheet), book);
+    let a = sheet.architecture;
+    let read = book::read_for(a, book);
     let answer = read.answer;
     match answer {
         Reply::Refused(refusal) => Verdict::Refused(refusal),
@@ -66,11 +62,10 @@ fn copy(annotation: &mut [u16], numbers: &[u16], n: usize)
 
 // Of the tables of a choice: their annotation, or `loop`.
 pub fn annotate_tables(sheet: Sheet, tables: &[u8], annotation: &mut [u16]) -> Verdict
-    requires { ⌜ Good (sheetOf sheet) ⌝ }
-    requires { ⌜ Sized sheet ⌝ }
-    requires { ⌜ IsChoice (sheetOf sheet) (chosen (sheetOf sheet) (now tables)) ⌝ }
-    ensures { λ r. ⌜ r ≡ annotated (roomFor (sheetOf sheet) (chosen (sheetOf sheet) (now (tables .entry))) (now (annotation .entry))) (now (annotation .entry)) .answer ⌝ }
-    ensures { λ _. ⌜ now (annotation .exit) ≡ annotated (roomFor (sheetOf sheet) (chosen (sheetOf sheet) (now (tables .entry))) (now (annotation .entry))) (now (annotation .entry)) .annotation ⌝ }
+    requires { ⌜ IsProper sheet ⌝ }
+    requires { ⌜ IsChoice (architectureOf (sheet .architecture)) (chosen (architectureOf (sheet .architecture)) (now tables)) ⌝ }
+    ensures { λ r. ⌜ r ≡ annotated (roomFor (sheetOf sheet) (chosen (architectureOf (sheet .architecture)) (now (tables .entry))) (now (annotation .entry))) (now (annotation .entry)) .answer ⌝ }
+    ensures { λ _. ⌜ now (annotation .exit) ≡ annotated (roomFor (sheetOf sheet) (chosen (architectureOf (sheet .architecture)) (now (tables .entry))) (now (annotation .entry))) (now (annotation .entry)) .annotation ⌝ }
 {
     let mut targets = [0u16; 4096];
     let mut steps = [0u16; 4096];
@@ -101,12 +96,12 @@ pub fn annotate_tables(sheet: Sheet, tables: &[u8], annotation: &mut [u16]) -> V
 
 // Of a proper sheet: the annotation of the book, or `loop`.
 pub fn annotate_for(sheet: Sheet, book: &[u8], annotation: &mut [u16]) -> Verdict
-    requires { ⌜ Good (sheetOf sheet) ⌝ }
-    requires { ⌜ Sized sheet ⌝ }
+    requires { ⌜ IsProper sheet ⌝ }
     ensures { λ r. ⌜ r ≡ annotated (bookFor (sheetOf sheet) (now (book .entry)) (now (annotation .entry))) (now (annotation .entry)) .answer ⌝ }
     ensures { λ _. ⌜ now (annotation .exit) ≡ annotated (bookFor (sheetOf sheet) (now (book .entry)) (now (annotation .entry))) (now (annotation .entry)) .annotation ⌝ }
 {
-    let read = book::read_for(Architecture::of(sheet), book);
+    let a = sheet.architecture;
+    let read = book::read_for(a, book);
     let answer = read.answer;
     match answer {
         Reply::Refused(refusal) => Verdict::Refused(refusal),

@@ -15,14 +15,13 @@ use Rattle.theory.specs.Graph.{rejecting-vertices}
 use Rattle.theory.specs.Annotation
 use Rattle.theory.proofs.AnnotationLaws.{annotation-length as theory-length}
 use Rattle.model.specs.Mask.{bit, count}
-use Rattle.model.specs.Sheet.{Sheet}
+use Rattle.model.specs.Sheet.{Sheet, ProperSheet}
 use Rattle.model.specs.Compose.{T}
 use Rattle.model.specs.Choice.{IsChoice}
 use Rattle.model.specs.RunGraph.{vertices, automatonState, rejects, Keeps, blank}
 use Rattle.model.specs.Computed.{runGraph, annotation}
 use Rattle.model.specs.Demands.{Annotates}
-use Rattle.model.proofs.ProperSheet.{Good}
-use Rattle.model.proofs.RunGraph.{T-pos}
+use Rattle.model.proofs.Compose.{T-pos}
 use Rattle.model.proofs.Loops.{most-entries, blank-elsewhere, few-entries}
 
 -- ---- its length
@@ -76,17 +75,17 @@ module _ (m t : ℕ) (pos : 0 < t) where
       ∙ omega (arith, row q t (omega arith), rows q, add-mul (one (bit m q)) (Lists.count (bit m) q) t, mul-comm t (one (bit m q)))
 
 -- no number exceeds T times the rejecting states
-rejecting-few : (s : Sheet) (c : List ℕ) → Good s → rejecting-vertices (runGraph s c) ≤ T s * count (s .rejecting)
+rejecting-few : (s : Sheet) (c : List ℕ) → ProperSheet s → rejecting-vertices (runGraph s c) ≤ T (s .architecture) * count (s .automaton .rejecting)
 unfolding rejecting-vertices runGraph vertices rejects automatonState count rejecting
 rejecting-few s c good =
     omega (
       arith,
-      rows (s .rejecting) (T s) (T-pos s c good) (s .states),
-      mul-comm (Lists.count (bit (s .rejecting)) (s .states)) (T s),
-      mul-le-mul-left (T s) (bits-le (s .states) (s .rejecting)),
+      rows (s .automaton .rejecting) (T (s .architecture)) (T-pos (s .architecture) (good .architecture)) (s .automaton .states),
+      mul-comm (Lists.count (bit (s .automaton .rejecting)) (s .automaton .states)) (T (s .architecture)),
+      mul-le-mul-left (T (s .architecture)) (bits-le (s .automaton .states) (s .automaton .rejecting)),
     )
 
-pub annotates : (s : Sheet) (c : List ℕ) → Good s → IsChoice s c → Keeps s c → Annotates s c (annotation s c)
+pub annotates : (s : Sheet) (c : List ℕ) → ProperSheet s → IsChoice (s .architecture) c → Keeps s c → Annotates s c (annotation s c)
 annotates s c good choice kept = record {
   whole = annotation-length s c;
   most = most-entries s c good choice kept;

@@ -10,31 +10,30 @@ use Rattle.theory.specs.Graph.{rejecting-vertices}
 use Rattle.theory.specs.Annotation
 use Rattle.theory.proofs.ListLaws.{count-le}
 use Rattle.theory.proofs.ValidLaws.{annotation-test}
-use Rattle.model.specs.Sheet.{Sheet}
+use Rattle.model.specs.Sheet.{Sheet, ProperSheet}
 use Rattle.model.specs.Compose.{T}
 use Rattle.model.specs.Choice.{IsChoice}
 use Rattle.model.specs.RunGraph.{vertices, Keeps, blank, Valid}
 use Rattle.model.specs.Computed.{runGraph, annotation, valid}
 use Rattle.model.specs.Calls.{front}
-use Rattle.model.proofs.ProperSheet.{Good}
 use Rattle.model.proofs.RunGraph.{start-lt, step-lt, graph-finite}
 use Rattle.model.proofs.Loops.{loop-from, valid-exactly}
 use Rattle.model.proofs.AnnotationExact.{annotates}
 
 -- ---- the numbers stay below blank
-below-blank : (s : Sheet) (c : List ℕ) → Good s → rejecting-vertices (runGraph s c) < blank
+below-blank : (s : Sheet) (c : List ℕ) → ProperSheet s → rejecting-vertices (runGraph s c) < blank
 unfolding rejecting-vertices runGraph vertices T
-below-blank s c good = omega (arith, count-le (runGraph s c .rejects) (vertices s), mul-le-mul (good .few-states) (good .few-composed))
+below-blank s c good = omega (arith, count-le (runGraph s c .rejects) (vertices s), mul-le-mul (good .automaton .few-states) (good .architecture .few-composed))
 
 -- ---- only the numbers of the vertices count
-same-valid : (s : Sheet) (c : List ℕ) → Good s → IsChoice s c → (f g : ℕ → ℕ) → ((v : ℕ) → v < vertices s → f v ≡ g v) → Valid s c f → Valid s c g
+same-valid : (s : Sheet) (c : List ℕ) → ProperSheet s → IsChoice (s .architecture) c → (f g : ℕ → ℕ) → ((v : ℕ) → v < vertices s → f v ≡ g v) → Valid s c f → Valid s c g
 same-valid s c good choice f g same h = record {
   starts = λ e. h .starts (same _ (start-lt s c good) ∙ e);
   spreads = λ {v} {w} l n p e. h .spreads l (λ q. n (sym (same v l) ∙ q)) p (same w (step-lt s c good choice v w p) ∙ e);
   rises = λ {v} {w} l n p. omega (arith, h .rises l (λ q. n (sym (same v l) ∙ q)) p, same v l, same w (step-lt s c good choice v w p));
 }
 
-module _ (s : Sheet) (c : List ℕ) (good : Good s) (choice : IsChoice s c) (kept : Keeps s c) where
+module _ (s : Sheet) (c : List ℕ) (good : ProperSheet s) (choice : IsChoice (s .architecture) c) (kept : Keeps s c) where
   annotation-valid : valid s c (annotation s c) ≡ true
   unfolding valid annotation
   annotation-valid = annotation-test 0 blank (graph-finite s c good choice) (omega (arith, below-blank s c good)) .1 (λ o. kept (loop-from s c good choice o))

@@ -8,17 +8,11 @@ use lib.Dec.{eqb}
 use lib.ListN.{length, replicate, length-append}
 use borrow.Author.Tests.{eqb-true, eq-eqb}
 use Rattle.theory.proofs.Bools.{and-is}
-use Rattle.model.specs.Sheet.{Process, Sheet}
+use Rattle.model.specs.Sheet.{Process, Architecture}
 use Rattle.model.specs.Compose.{rowLength}
 use Rattle.model.specs.Choice.{row, times, rows, entries}
-use Rattle.model.specs.Book.{Slot, due, entry, records, allRecords, form, filled, wellFormed, entriesIn}
+use Rattle.model.specs.Book.{Slot, due, entry, records, allRecords, form, holes, filled, wellFormed, entriesIn}
 use Rattle.model.proofs.FitsTest.{row-length}
-
--- how many bytes of the form are entries
-unfoldable pub holes : List Slot → ℕ
-holes [] = 0
-holes (due x ∷ ps) = holes ps
-holes (entry ∷ ps) = suc (holes ps)
 
 pub filled-front : (ps : List Slot) (c r : List ℕ) → length c ≡ holes ps → filled ps (c ++ r) ≡ filled ps c
 unfolding filled holes
@@ -106,6 +100,6 @@ holes-all i (p ∷ ps) =
       length-append (times (p .bound) (row p)) (rows ps),
     )
 
-pub holes-form : (s : Sheet) → holes (form s) ≡ length (entries s)
+pub holes-form : (a : Architecture) → holes (form a) ≡ length (entries a)
 unfolding holes form entries
-holes-form s = omega (arith, holes-append (allRecords 0 (s .processes)) (due 0x45 ∷ due 0x4E ∷ []), holes-all 0 (s .processes))
+holes-form a = omega (arith, holes-append (allRecords 0 (a .processes)) (due 0x45 ∷ due 0x4E ∷ []), holes-all 0 (a .processes))

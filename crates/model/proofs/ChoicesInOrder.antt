@@ -4,10 +4,11 @@ use mathlib.Core.Logic.{_⊎_, inl, inr, ⊎-elim}
 use mathlib.Core.List.{List, [], _∷_, _++_, map, List·Memᴰ, List·Memᴰ·head, List·Memᴰ·tail, List·Memᴰ·not-nil, List·Memᴰ·cases-cons, List·Memᴰ·append-cases}
 use Prim.Native.Nat.{ℕ}
 use native.Mathlib.Omega.{arith}
-use Rattle.model.specs.Sheet.{Sheet, proper, readSheet}
-use Rattle.model.specs.Choice.{Entry, values, entries, Fits, done, also, Before, lower, later, empty, then, Ordered, Once, each, choices}
+use Rattle.theory.specs.Lists.{empty, before}
+use Rattle.theory.proofs.ListLaws.{pairwise-append}
+use Rattle.model.specs.Sheet.{Architecture, ProperArchitecture}
+use Rattle.model.specs.Choice.{Entry, values, entries, Fits, done, also, Before, lower, later, Ordered, Once, each, choices}
 use Rattle.model.specs.Demands.{order-of-choices}
-use Rattle.model.proofs.ProperSheet.{sheet-good}
 use Rattle.model.proofs.FirstInOrder.{Rising, flat, up, AllSmall, values-rising, values-has, values-may, entries-small}
 
 heads-sound : (v : ℕ) (cs : List (List ℕ)) (c : List ℕ) → List·Memᴰ c (map (λ d. v ∷ d) cs) → (d : List ℕ) × List·Memᴰ d cs × (c ≡ v ∷ d)
@@ -57,21 +58,16 @@ fits-listed (e ∷ es) c small (also {v = v} {c = d} m f) =
     each-has (values e) (choices es) v d (values-has e v (small e (List·Memᴰ·head refl)) m) (fits-listed es d (λ x i. small x (List·Memᴰ·tail i)) f)
 
 -- ---- in order
-ordered-append : {xs ys : List (List ℕ)} → Ordered xs → Ordered ys → ((x y : List ℕ) → List·Memᴰ x xs → List·Memᴰ y ys → Before x y) → Ordered (xs ++ ys)
-ordered-append empty o h = o
-ordered-append {ys = ys} (then {c = c} {cs = cs} k p) o h =
-    then (λ d m. ⊎-elim (λ i. k d i) (λ i. h c d (List·Memᴰ·head refl) i) (List·Memᴰ·append-cases cs m)) (ordered-append p o (λ x y i j. h x y (List·Memᴰ·tail i) j))
-
 heads-ordered : (v : ℕ) {cs : List (List ℕ)} → Ordered cs → Ordered (map (λ d. v ∷ d) cs)
 heads-ordered v empty = empty
-heads-ordered v (then {c = c} {cs = cs} k o) =
-    then (λ d m. let r : (x : List ℕ) × List·Memᴰ x cs × (d ≡ v ∷ x) = heads-sound v cs d m in subst (Before (v ∷ c)) (sym (r .2)) (later (k (r .0) (r .1)))) (heads-ordered v o)
+heads-ordered v (before {x = c} {xs = cs} k o) =
+    before (λ d m. let r : (x : List ℕ) × List·Memᴰ x cs × (d ≡ v ∷ x) = heads-sound v cs d m in subst (Before (v ∷ c)) (sym (r .2)) (later (k (r .0) (r .1)))) (heads-ordered v o)
 
 each-ordered : {vs : List ℕ} (cs : List (List ℕ)) → Rising vs → Ordered cs → Ordered (each vs cs)
 unfolding each
 each-ordered cs flat o = empty
 each-ordered cs (up {x = v} {xs = vs} h r) o =
-    ordered-append (heads-ordered v o) (each-ordered cs r o)
+    pairwise-append (heads-ordered v o) (each-ordered cs r o)
     (λ x y i j.
     let a : (d : List ℕ) × List·Memᴰ d cs × (x ≡ v ∷ d) = heads-sound v cs x i in
     let b : (u : ℕ) × (d : List ℕ) × List·Memᴰ u vs × List·Memᴰ d cs × (y ≡ u ∷ d) = each-sound vs cs y j in
@@ -79,7 +75,7 @@ each-ordered cs (up {x = v} {xs = vs} h r) o =
 
 choices-ordered : (es : List Entry) → Ordered (choices es)
 unfolding choices
-choices-ordered [] = then (λ d m. absurd (List·Memᴰ·not-nil m)) empty
+choices-ordered [] = before (λ d m. absurd (List·Memᴰ·not-nil m)) empty
 choices-ordered (e ∷ es) = each-ordered (choices es) (values-rising e) (choices-ordered es)
 
 -- ---- each once
@@ -89,11 +85,11 @@ before-differs (later {c = c} {d = d} b) e = let z : c ≡ d = cc in before-diff
 
 ordered-once : {cs : List (List ℕ)} → Ordered cs → Once cs
 ordered-once empty = empty
-ordered-once (then h o) = then (λ d m. before-differs (h d m)) (ordered-once o)
+ordered-once (before h o) = before (λ d m. before-differs (h d m)) (ordered-once o)
 
-pub choices-in-order : (sheet : List ℕ) (s : Sheet) → readSheet sheet ≡ proper s → order-of-choices s
-choices-in-order sheet s is-proper = record {
-  exactly = λ c. (λ m. listed-fits (entries s) c m, λ f. fits-listed (entries s) c (entries-small s (sheet-good sheet s is-proper)) f);
-  once = ordered-once (choices-ordered (entries s));
-  ordered = choices-ordered (entries s);
+pub choices-in-order : (a : Architecture) → ProperArchitecture a → order-of-choices a
+choices-in-order a good = record {
+  exactly = λ c. (λ m. listed-fits (entries a) c m, λ f. fits-listed (entries a) c (entries-small a good) f);
+  once = ordered-once (choices-ordered (entries a));
+  ordered = choices-ordered (entries a);
 }

@@ -15,9 +15,10 @@ use Rattle.model.specs.declared.Reply.{Reply}
 use Rattle.model.specs.declared.Outcome.{Outcome}
 use Rattle.model.specs.Numbers.{number}
 use Rattle.model.specs.Mask.{if}
-use Rattle.model.specs.Sheet.{Process, Sheet, Reading, refused, proper, byte, short, marked, EN, ED, AU, PR, AR, arFault, prFault, allFault, auFault, edFault, processAt, edgeAt, readEnd, readEdge, readEdges, readAutomaton, readProcess, readProcesses, readSheet, refuse_when_else_, _then_}
+use Rattle.model.specs.Sheet.{Architecture, Sheet, withProcess}
+use Rattle.model.specs.Reading.{Reading, refused, proper, byte, short, marked, EN, ED, AU, PR, AR, arFault, prFault, allFault, auFault, edFault, architectureAt, processAt, edgeAt, readEnd, readEdge, readEdges, readAutomaton, readProcess, readProcesses, readFront, readSheet, refuse_when_else_, _then_}
 use Rattle.model.specs.Computed.{loops, firstChoice}
-use Rattle.model.specs.Calls.{Chosen, reply, checkOf, findSheet, findChoice, findIn, findOf, bookAndRoom, annotatedBy, annotated, annotateOf, written, wrote, writeOf, partSheet, cut, partOf, part}
+use Rattle.model.specs.Calls.{Chosen, reply, checkOf, findSheet, findChoice, findIn, findOf, bookAndRoom, annotatedBy, annotated, annotateOf, written, wrote, writeOf, partArchitecture, cut, partOf, part}
 use Rattle.model.specs.Demands.{demand-1}
 
 -- ---- 1 to 7
@@ -59,32 +60,36 @@ early-edges variables states (suc k) b i =
     (early-then (readEdges variables states k b (i + 6)) _ (early-edges variables states k b (i + 6)) (λ es. early-proper (edgeAt b i ∷ es)))))
     (early-end b i)
 
-early-automaton : (variables environment root : ℕ) (ps : List Process) (b : List ℕ) (i : ℕ) → Early (readAutomaton variables environment root ps b i)
+early-automaton : (a : Architecture) (b : List ℕ) (i : ℕ) → Early (readAutomaton a b i)
 unfolding readAutomaton
-early-automaton variables environment root ps b i =
+early-automaton a b i =
     early-refuse SheetTooShort (short b i 2) _ (omega arith)
-    (early-refuse WrongMark (not (marked b i AU) || eqb (length ps) 0) _ (omega arith)
+    (early-refuse WrongMark (not (marked b i AU) || eqb (length (a .processes)) 0) _ (omega arith)
     (early-refuse SheetTooShort (short b i 6) _ (omega arith)
-    (early-refuse NoOwnerOrTooMany (allFault variables environment ps) _ (omega arith)
+    (early-refuse NoOwnerOrTooMany (allFault a) _ (omega arith)
     (early-refuse BadAutomaton (auFault (byte b (i + 2)) (byte b (i + 3)) (byte b (i + 4) + 256 * byte b (i + 5))) _ (omega arith)
-    (early-then (readEdges variables (byte b (i + 2)) 64 b (i + 6)) _ (early-edges variables (byte b (i + 2)) 64 b (i + 6)) (λ es. early-proper _))))))
+    (early-then (readEdges (a .variables) (byte b (i + 2)) 64 b (i + 6)) _ (early-edges (a .variables) (byte b (i + 2)) 64 b (i + 6)) (λ es. early-proper _))))))
 
-early-processes : (variables environment root k : ℕ) (ps : List Process) (b : List ℕ) (i : ℕ) → Early (readProcesses variables environment root k ps b i)
+early-processes : (k : ℕ) (a : Architecture) (b : List ℕ) (i : ℕ) → Early (readProcesses k a b i)
 unfolding readProcesses readProcess
-early-processes variables environment root zero ps b i = early-automaton variables environment root ps b i
-early-processes variables environment root (suc k) ps b i =
-    early-if (marked b i PR) (readProcess variables environment ps b i (readProcesses variables environment root k (ps ++ (processAt b i ∷ [])) b (i + 5))) _
+early-processes zero a b i = early-proper _
+early-processes (suc k) a b i =
+    early-if (marked b i PR) (readProcess a b i (readProcesses k (withProcess a (processAt b i)) b (i + 5))) _
     (early-refuse SheetTooShort (short b i 5) _ (omega arith)
-    (early-refuse BadProcess (prFault variables environment ps (processAt b i)) _ (omega arith) (early-processes variables environment root k (ps ++ (processAt b i ∷ [])) b (i + 5))))
-    (early-automaton variables environment root ps b i)
+    (early-refuse BadProcess (prFault a (processAt b i)) _ (omega arith) (early-processes k (withProcess a (processAt b i)) b (i + 5))))
+    (early-proper _)
 
-pub early : (b : List ℕ) → Early (readSheet b)
-unfolding readSheet
-early b =
+early-front : (b : List ℕ) → Early (readFront b)
+unfolding readFront
+early-front b =
     early-refuse SheetTooShort (short b 0 2) _ (omega arith)
     (early-refuse WrongMark (not (marked b 0 AR)) _ (omega arith)
     (early-refuse SheetTooShort (short b 0 5) _ (omega arith)
-    (early-refuse BadArchitecture (arFault (byte b 2) (byte b 3) (byte b 4)) _ (omega arith) (early-processes (byte b 2) (byte b 3) (byte b 4) 4 [] b 5))))
+    (early-refuse BadArchitecture (arFault (architectureAt b)) _ (omega arith) (early-processes 4 (architectureAt b) b 5))))
+
+pub early : (b : List ℕ) → Early (readSheet b)
+unfolding readSheet
+early b = early-then (readFront b) _ (early-front b) (λ f. early-then (readAutomaton (f .architecture) b (f .end)) _ (early-automaton (f .architecture) b (f .end)) (λ u. early-proper _))
 
 check-early : (k : Reading Sheet) → Early k → (r : Refusal) → reply k ≡ Reply.Refused r → (1 ≤ number r) × (number r ≤ 7)
 unfolding reply
@@ -115,7 +120,7 @@ unfolding wrote
 write-kept (refused q) book r e = refl
 write-kept (proper new) book r e = let z : _≡_ {A = ℕ} 0 1 = cc in absurd (omega arith)
 
-part-kept : (k : Reading Sheet) (book : List ℕ) (i : ℕ) (r : Refusal) → cut k i .answer ≡ Reply.Refused r → part (cut k i) book ≡ []
+part-kept : (k : Reading Architecture) (book : List ℕ) (i : ℕ) (r : Refusal) → cut k i .answer ≡ Reply.Refused r → part (cut k i) book ≡ []
 unfolding cut part
 part-kept (refused q) book i r e = refl
 part-kept (proper s) book i r e = let z : _≡_ {A = ℕ} 0 1 = cc in absurd (omega arith)
@@ -139,7 +144,7 @@ first-demand = record {
   find-refused = λ sheet book ann r e. find-kept (findSheet sheet book ann) book ann (Outcome.Refused r) e (refused≢tables r);
   annotate-refused = λ sheet book ann r e. annotate-kept (bookAndRoom sheet book ann) ann (Verdict.Refused r) e (refused≢found r);
   write-refused = λ sheet tables book r e. write-kept (written sheet tables book) book r e;
-  part-refused = λ sheet book i r e. part-kept (partSheet sheet book i) book i r e;
+  part-refused = λ sheet book i r e. part-kept (partArchitecture sheet book i) book i r e;
   none-writes-nothing = λ sheet book ann e. find-kept (findSheet sheet book ann) book ann Outcome.Nothing e nothing≢tables;
   loop-writes-nothing = λ sheet book ann e. annotate-kept (bookAndRoom sheet book ann) ann (Verdict.Found No) e no≢yes;
 }

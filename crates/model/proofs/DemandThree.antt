@@ -12,14 +12,15 @@ use Rattle.model.specs.declared.Refusal.the-variants.{BookBufferTooShort
 use Rattle.model.specs.declared.Finding.the-variants.{Yes}
 use Rattle.model.specs.declared.Verdict.{Verdict}
 use Rattle.model.specs.declared.Outcome.{Outcome}
-use Rattle.model.specs.Sheet.{Sheet, Reading, proper, readSheet}
+use Rattle.model.specs.Sheet.{Sheet, ProperSheet}
+use Rattle.model.specs.Reading.{Reading, proper, readSheet}
 use Rattle.model.specs.Choice.{IsChoice, padded}
 use Rattle.model.specs.RunGraph.{vertices, RejectingLoop}
 use Rattle.model.specs.Computed.{loops, keeps, annotation, firstChoice}
 use Rattle.model.specs.Book.{form, bookLength, bookOf, readBook}
-use Rattle.model.specs.Calls.{front, bookShort, annotationShort, AfterFind, findSheet, findChoice, findIn, findOf, judgeOf, AfterAnnotate, annotateOf}
+use Rattle.model.specs.Calls.{front, bookShort, annotationShort, AfterFind, findSheet, findChoice, findIn, findOf, judgeOf, AfterAnnotate, annotateOf, roomToFind}
 use Rattle.model.specs.Demands.{Annotates, First, bookFound, demand-3}
-use Rattle.model.proofs.ProperSheet.{passes, goes-on, Good, sheet-good}
+use Rattle.model.proofs.ProperSheet.{passes, goes-on, sheet-proper}
 use Rattle.model.proofs.Loops.{loops-exactly, keeps-exactly}
 use Rattle.model.proofs.AnnotationExact.{annotates}
 use Rattle.model.proofs.BookInverse.{filled-length}
@@ -30,10 +31,10 @@ use Rattle.model.proofs.FewerStates.{padded-is-choice}
 
 module _ (sheet book ann : List ℕ) (s : Sheet) (not-refused : findSheet sheet book ann ≡ proper s) where
   unrefused : (readSheet sheet ≡ proper s) × (vertices s ≤ length ann)
-  unfolding findSheet annotationShort
+  unfolding findSheet roomToFind annotationShort
   unrefused =
       let h₁ = goes-on (readSheet sheet) _ not-refused in
-      let h₂ = passes BookBufferTooShort (bookShort (h₁ .0) book) _ (h₁ .2) in
+      let h₂ = passes BookBufferTooShort (bookShort (h₁ .0 .architecture) book) _ (h₁ .2) in
       let h₃ = passes AnnotationBufferTooShort (annotationShort (h₁ .0) ann) _ (h₂ .1) in
       let e : h₁ .0 ≡ s = same (h₁ .0) s (h₃ .1) in
       (h₁ .1 ∙ ap proper e, subst (λ (x : Sheet). vertices x ≤ length ann) e (ltb-false _ _ (h₃ .0)))
@@ -41,19 +42,19 @@ module _ (sheet book ann : List ℕ) (s : Sheet) (not-refused : findSheet sheet 
       same : (x y : Sheet) → proper x ≡ proper y → x ≡ y
       same x y e = cc
 
-  good : Good s
-  good = sheet-good sheet s (unrefused .0)
+  good : ProperSheet s
+  good = sheet-proper sheet s (unrefused .0)
 
   find-is : findOf sheet book ann ≡ findChoice s (firstChoice s) book ann
   unfolding findOf findIn
   find-is = ap (λ (k : Reading Sheet). findIn k book ann) not-refused
 
   -- a choice that does not keep the sheet has a rejecting loop
-  looping : (c : List ℕ) → IsChoice s c → keeps s c ≡ false → RejectingLoop s c
+  looping : (c : List ℕ) → IsChoice (s .architecture) c → keeps s c ≡ false → RejectingLoop s c
   unfolding keeps
   looping c choice e = loops-exactly s c good choice .0 (not-false (loops s c) e)
 
-  all-loop : firstChoice s ≡ none → (c : List ℕ) → IsChoice s c → RejectingLoop s c
+  all-loop : firstChoice s ≡ none → (c : List ℕ) → IsChoice (s .architecture) c → RejectingLoop s c
   all-loop e c choice = looping c choice (found-none s good e c choice)
 
   the-first : (c : List ℕ) → firstChoice s ≡ some c → First s c
@@ -65,7 +66,7 @@ module _ (sheet book ann : List ℕ) (s : Sheet) (not-refused : findSheet sheet 
         first = λ d choice b. looping d choice (f .earlier d choice b);
       }
 
-  found : (c : List ℕ) → firstChoice s ≡ some c → findOf sheet book ann ≡ record { answer = Outcome.Tables; book = front (bookOf s c) book; annotation = front (annotation s c) ann }
+  found : (c : List ℕ) → firstChoice s ≡ some c → findOf sheet book ann ≡ record { answer = Outcome.Tables; book = front (bookOf (s .architecture) c) book; annotation = front (annotation s c) ann }
   unfolding findChoice
   found c e = find-is ∙ ap (λ (o : Option (List ℕ)). findChoice s o book ann) e
 
@@ -76,13 +77,13 @@ module _ (sheet book ann : List ℕ) (s : Sheet) (not-refused : findSheet sheet 
       let z : _≡_ {A = ℕ} 0 1 = cc in
       absurd (omega arith)
 
-  nothing-answer : (o : Option (List ℕ)) → firstChoice s ≡ o → ((c : List ℕ) → IsChoice s c → RejectingLoop s c) → findOf sheet book ann .answer ≡ Outcome.Nothing
+  nothing-answer : (o : Option (List ℕ)) → firstChoice s ≡ o → ((c : List ℕ) → IsChoice (s .architecture) c → RejectingLoop s c) → findOf sheet book ann .answer ≡ Outcome.Nothing
   unfolding findChoice
   nothing-answer none e h = ap (λ (a : AfterFind). a .answer) (find-is ∙ ap (λ (o : Option (List ℕ)). findChoice s o book ann) e)
   nothing-answer (some c) e h = let f : First s c = the-first c e in absurd (f .keeps (h c (f .is-choice)))
 
   tables : (o : Option (List ℕ)) → firstChoice s ≡ o → ¬ (findOf sheet book ann .answer ≡ Outcome.Nothing)
-      → (c : List ℕ) × (a : List ℕ) × First s c × Annotates s c a × (findOf sheet book ann ≡ record { answer = Outcome.Tables; book = front (bookOf s c) book; annotation = front a ann })
+      → (c : List ℕ) × (a : List ℕ) × First s c × Annotates s c a × (findOf sheet book ann ≡ record { answer = Outcome.Tables; book = front (bookOf (s .architecture) c) book; annotation = front a ann })
   tables none e n = absurd (n (nothing-answer none e (all-loop e)))
   tables (some c) e n =
       let f : First s c = the-first c e in
@@ -100,12 +101,12 @@ module _ (sheet book ann : List ℕ) (s : Sheet) (not-refused : findSheet sheet 
   own = bookFound sheet book ann s
 
   module _ (c : List ℕ) (e : firstChoice s ≡ some c) where
-    own-is : own ≡ bookOf s c
+    own-is : own ≡ bookOf (s .architecture) c
     unfolding bookOf bookLength front
-    own-is = ap (λ (a : AfterFind). take (bookLength s) (a .book)) (found c e) ∙ take-at (bookOf s c) (drop (length (bookOf s c)) book) (bookLength s) (filled-length (form s) c)
+    own-is = ap (λ (a : AfterFind). take (bookLength (s .architecture)) (a .book)) (found c e) ∙ take-at (bookOf (s .architecture) c) (drop (length (bookOf (s .architecture) c)) book) (bookLength (s .architecture)) (filled-length (form (s .architecture)) c)
 
-    own-read : readBook s own ≡ proper c
-    own-read = ap (readBook s) own-is ∙ written-is-read s c (the-first c e .is-choice)
+    own-read : readBook (s .architecture) own ≡ proper c
+    own-read = ap (readBook (s .architecture)) own-is ∙ written-is-read (s .architecture) c (the-first c e .is-choice)
 
     agrees : annotateOf sheet own ann ≡ record { answer = Verdict.Found Yes; annotation = findOf sheet book ann .annotation }
     agrees =
@@ -120,9 +121,9 @@ module _ (sheet book ann : List ℕ) (s : Sheet) (not-refused : findSheet sheet 
   pub third-demand : demand-3 sheet book ann s not-refused
   third-demand = record {
     none-exactly = (λ q. all-loop (answer-nothing (firstChoice s) refl q), λ h. nothing-answer (firstChoice s) refl h);
-    none-with-fewer-states = λ q bounds c choice. all-loop (answer-nothing (firstChoice s) refl q) (padded s bounds c) (padded-is-choice s bounds c good choice);
+    none-with-fewer-states = λ q bounds c choice. all-loop (answer-nothing (firstChoice s) refl q) (padded (s .architecture) bounds c) (padded-is-choice (s .architecture) bounds c (good .architecture) choice);
     otherwise = λ n. tables (firstChoice s) refl n;
-    choices-listed = choices-in-order sheet s (unrefused .0);
+    choices-listed = choices-in-order (s .architecture) (good .architecture);
     passes-judge = λ q. let r = answer-tables (firstChoice s) refl q in passed (r .0) (r .1);
     annotate-agrees = λ q. let r = answer-tables (firstChoice s) refl q in agrees (r .0) (r .1);
   }

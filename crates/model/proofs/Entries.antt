@@ -9,9 +9,8 @@ use lib.Bits.{bitAnd, and-zero-l}
 use lib.ListN.{length, getD, set, replicate}
 use borrow.Author.Tests.{lt-ltb, eq-eqb}
 use Rattle.model.specs.Mask.{within, count}
-use Rattle.model.specs.Sheet.{Process, Sheet}
+use Rattle.model.specs.Sheet.{Process, Architecture, ProperArchitecture}
 use Rattle.model.specs.Choice.{Entry, output, next, may, row, times, rows, entries, Fits, done, also, IsChoice, Before, lower, later}
-use Rattle.model.proofs.ProperSheet.{Good}
 
 -- ---- by place
 pub fits-at : {es : List Entry} {c : List ℕ} → Fits es c → (e₀ : Entry) (i : ℕ) → i < length es → may (getD es i e₀) (getD c i 0) ≡ true
@@ -57,9 +56,9 @@ module _ (P : Entry → Type 0) where
       ⊎-elim (λ i. let b = h p (List·Memᴰ·head refl) in times-have p (b .0) (b .1) (p .bound) e i) (λ i. rows-have ps (λ q j. h q (List·Memᴰ·tail j)) e i)
       (List·Memᴰ·append-cases (times (p .bound) (row p)) m)
 
-  pub entries-have : (s : Sheet) → ((p : Process) → List·Memᴰ p (s .processes) → P (output (p .outputs)) × P (next (p .bound))) → (e : Entry) → List·Memᴰ e (entries s) → P e
+  pub entries-have : (a : Architecture) → ((p : Process) → List·Memᴰ p (a .processes) → P (output (p .outputs)) × P (next (p .bound))) → (e : Entry) → List·Memᴰ e (entries a) → P e
   unfolding entries
-  entries-have s h = rows-have (s .processes) h
+  entries-have a h = rows-have (a .processes) h
 
 -- ---- zeros
 abbrev pub MayZero : Entry → Type 0
@@ -77,5 +76,5 @@ pub next-zero : (b : ℕ) → 1 ≤ b → MayZero (next b)
 unfolding may
 next-zero b l = lt-ltb 0 b l
 
-pub zeros-fit : (s : Sheet) → Good s → IsChoice s (replicate (length (entries s)) 0)
-zeros-fit s good = zeros (entries s) (entries-have MayZero s (λ p m. (output-zero (p .outputs), next-zero (p .bound) (good .processes-good p m .some-state))))
+pub zeros-fit : (a : Architecture) → ProperArchitecture a → IsChoice a (replicate (length (entries a)) 0)
+zeros-fit a good = zeros (entries a) (entries-have MayZero a (λ p m. (output-zero (p .outputs), next-zero (p .bound) (good .front .processes-proper p m .some-state))))

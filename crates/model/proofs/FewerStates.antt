@@ -7,11 +7,10 @@ use native.Mathlib.Omega.{arith}
 use lib.ListN.{length, take, drop, replicate, take-append-drop}
 use borrow.Author.Tests.{ltb-true, lt-ltb}
 use Rattle.model.specs.Mask.{count}
-use Rattle.model.specs.Sheet.{Process, Sheet}
+use Rattle.model.specs.Sheet.{Process, Architecture, ProperProcesses, ProperArchitecture}
 use Rattle.model.specs.Compose.{rowLength, processLength}
 use Rattle.model.specs.Choice.{Entry, next, may, row, times, rows, entries, Fits, done, also, IsChoice, lowered, padRows, padded}
 use Rattle.model.proofs.FitsTest.{row-length}
-use Rattle.model.proofs.ProperSheet.{GoodProcesses, Good}
 use Rattle.model.proofs.Entries.{times-have, MayZero, zeros, output-zero, next-zero}
 use Rattle.model.proofs.Compose.{fits-drop, times-length}
 
@@ -68,11 +67,11 @@ module _ (p : Process) (some : 1 ≤ p .bound) (m k : ℕ) (whole : m + k ≡ p 
   unfolding processLength
   zeros-are = omega (arith, add-mul m k (rowLength p), ap (λ (n : ℕ). n * rowLength p) whole)
 
-pad-fits : (variables : ℕ) (ps : List Process) (bs c : List ℕ) → GoodProcesses variables ps → Fits (rows (lowered ps bs)) c → Fits (rows ps) (padRows ps bs c)
+pad-fits : {v e : ℕ} (ps : List Process) (bs c : List ℕ) → ProperProcesses v e ps → Fits (rows (lowered ps bs)) c → Fits (rows ps) (padRows ps bs c)
 unfolding rows lowered padRows low
-pad-fits variables [] bs c g f = done
-pad-fits variables (p ∷ ps) [] c g f = f
-pad-fits variables (p ∷ ps) (b ∷ bs) c g f =
+pad-fits [] bs c g f = done
+pad-fits (p ∷ ps) [] c g f = f
+pad-fits (p ∷ ps) (b ∷ bs) c g f =
     let m : ℕ = min b (p .bound) in
     let k : ℕ = p .bound - m in
     let whole : m + k ≡ p .bound = omega arith in
@@ -82,8 +81,8 @@ pad-fits variables (p ∷ ps) (b ∷ bs) c g f =
     let rest : Fits (rows (lowered ps bs)) (drop (m * rowLength p) c) =
     subst (λ (n : ℕ). Fits (rows (lowered ps bs)) (drop n c)) (low-length p some m k whole) (fits-drop (times m (row (low p some m k whole))) f) in
     subst (λ (n : ℕ). Fits (rows (p ∷ ps)) (take (m * rowLength p) c ++ replicate n 0 ++ padRows ps bs (drop (m * rowLength p) c))) (sym (zeros-are p some m k whole))
-    (fits-append (process-wide p some m k whole (take (m * rowLength p) c) here) (pad-fits variables ps bs (drop (m * rowLength p) c) (λ q i. g q (List·Memᴰ·tail i)) rest))
+    (fits-append (process-wide p some m k whole (take (m * rowLength p) c) here) (pad-fits ps bs (drop (m * rowLength p) c) (λ q i. g q (List·Memᴰ·tail i)) rest))
 
-pub padded-is-choice : (s : Sheet) (bs c : List ℕ) → Good s → Fits (rows (lowered (s .processes) bs)) c → IsChoice s (padded s bs c)
+pub padded-is-choice : (a : Architecture) (bs c : List ℕ) → ProperArchitecture a → Fits (rows (lowered (a .processes) bs)) c → IsChoice a (padded a bs c)
 unfolding entries padded
-padded-is-choice s bs c good f = pad-fits (s .variables) (s .processes) bs c (good .processes-good) f
+padded-is-choice a bs c good f = pad-fits (a .processes) bs c (good .front .processes-proper) f

@@ -10,27 +10,19 @@ use lib.Bits.{bitAnd, and-le-r}
 use lib.Pow.{pow-mono}
 use lib.ListN.{length}
 use borrow.Author.Tests.{ltb-true, eqb-true}
-use Rattle.theory.specs.Lists.{filter, put}
-use Rattle.theory.proofs.ListLaws.{filter-sound, filter-complete}
-use Rattle.model.specs.Mask.{if, within, from}
-use Rattle.model.specs.Sheet.{Sheet}
+use Rattle.theory.specs.Lists.{filter, put, from}
+use Rattle.theory.proofs.ListLaws.{filter-sound, filter-complete, from-has, from-least}
+use Rattle.model.specs.Mask.{if, within}
+use Rattle.model.specs.Sheet.{Architecture, ProperProcess, ProperArchitecture}
 use Rattle.model.specs.Choice.{Entry, may, values, entries, Fits, done, also, Before, lower, later, choices}
 use Rattle.model.specs.Computed.{first}
 use Rattle.model.proofs.SettlingOrder.{or-else, with-head, try, settle, settle-first}
-use Rattle.model.proofs.ProperSheet.{GoodProcess, Good}
 use Rattle.model.proofs.Entries.{entries-have}
-use Rattle.model.proofs.RunGraph.{from-has}
 
 -- ---- lists that rise
 pub data Rising : List ℕ → Type 0 where
   flat : Rising []
   up : {x : ℕ} {xs : List ℕ} → ((y : ℕ) → List·Memᴰ y xs → x < y) → Rising xs → Rising (x ∷ xs)
-
-from-least : (n i y : ℕ) → List·Memᴰ y (from n i) → i ≤ y
-unfolding from
-from-least zero i y m = absurd (List·Memᴰ·not-nil m)
-from-least (suc n) i y (List·Memᴰ·head e) = omega arith
-from-least (suc n) i y (List·Memᴰ·tail m) = omega (arith, from-least n (suc i) y m)
 
 from-rising : (n i : ℕ) → Rising (from n i)
 unfolding from
@@ -166,12 +158,12 @@ within-le : (v m : ℕ) → within v m ≡ true → v ≤ m
 unfolding within
 within-le v m e = omega (arith, eqb-true (bitAnd v m) v e, and-le-r v m)
 
-pub entries-small : (s : Sheet) → Good s → AllSmall (entries s)
+pub entries-small : (a : Architecture) → ProperArchitecture a → AllSmall (entries a)
 unfolding may
-entries-small s good =
-    entries-have Small s
+entries-small a good =
+    entries-have Small a
     (λ p i.
-    let g : GoodProcess (s .variables) p = good .processes-good p i in (
-      λ v h. omega (arith, within-le v (p .outputs) h, g .outputs-known, pow-mono (good .few-variables)),
+    let g : ProperProcess (a .variables) (a .environment) p = good .front .processes-proper p i in (
+      λ v h. omega (arith, within-le v (p .outputs) h, g .outputs-known, pow-mono (good .front .few-variables)),
       λ v h. omega (arith, ltb-true v (p .bound) h, g .few-states),
     ))

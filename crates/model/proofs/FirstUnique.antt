@@ -7,10 +7,9 @@ use Prim.Native.Nat.{ℕ, _<_}
 use native.Mathlib.Omega.{arith}
 use native.Mathlib.Decide.{decLt}
 use lib.ListN.{length}
-use Rattle.model.specs.Sheet.{Sheet}
+use Rattle.model.specs.Sheet.{Sheet, ProperSheet}
 use Rattle.model.specs.Choice.{entries, IsChoice, Before, lower, later}
 use Rattle.model.specs.Computed.{keeps, firstChoice}
-use Rattle.model.proofs.ProperSheet.{Good}
 use Rattle.model.proofs.FitsTest.{fits-length}
 use Rattle.model.proofs.FirstInOrder.{FirstOf, first-none, first-some, entries-small}
 
@@ -36,26 +35,26 @@ compared (v ∷ c) (w ∷ d) l = by (decLt v w) (decLt w v) (compared c d (omega
     by (no h) (yes k) r = after (lower k)
     by (no h) (no k) r = let e : v ≡ w = omega arith in subst (λ (x : ℕ). Compared (v ∷ c) (x ∷ d)) e (heads v r)
 
-module _ (s : Sheet) (good : Good s) where
-  pub found-none : firstChoice s ≡ none → (c : List ℕ) → IsChoice s c → keeps s c ≡ false
+module _ (s : Sheet) (good : ProperSheet s) where
+  pub found-none : firstChoice s ≡ none → (c : List ℕ) → IsChoice (s .architecture) c → keeps s c ≡ false
   unfolding firstChoice
-  found-none e = first-none (entries s) (keeps s) (entries-small s good) e
+  found-none e = first-none (entries (s .architecture)) (keeps s) (entries-small (s .architecture) (good .architecture)) e
 
-  pub found-some : (c : List ℕ) → firstChoice s ≡ some c → FirstOf (entries s) (keeps s) c
+  pub found-some : (c : List ℕ) → firstChoice s ≡ some c → FirstOf (entries (s .architecture)) (keeps s) c
   unfolding firstChoice
-  found-some c e = first-some (entries s) (keeps s) c (entries-small s good) e
+  found-some c e = first-some (entries (s .architecture)) (keeps s) c (entries-small (s .architecture) (good .architecture)) e
 
-  pub none-is : ((c : List ℕ) → IsChoice s c → keeps s c ≡ false) → firstChoice s ≡ none
+  pub none-is : ((c : List ℕ) → IsChoice (s .architecture) c → keeps s c ≡ false) → firstChoice s ≡ none
   none-is h = by (firstChoice s) refl
     where
       by : (o : Option (List ℕ)) → firstChoice s ≡ o → firstChoice s ≡ none
       by none e = e
       by (some c) e = let f = found-some c e in absurd (true≢false (sym (f .passing) ∙ h c (f .fitting)))
 
-  pub first-is : (c : List ℕ) → FirstOf (entries s) (keeps s) c → firstChoice s ≡ some c
+  pub first-is : (c : List ℕ) → FirstOf (entries (s .architecture)) (keeps s) c → firstChoice s ≡ some c
   first-is c f = by (firstChoice s) refl
     where
-      by-order : (d : List ℕ) → firstChoice s ≡ some d → FirstOf (entries s) (keeps s) d → Compared c d → firstChoice s ≡ some c
+      by-order : (d : List ℕ) → firstChoice s ≡ some d → FirstOf (entries (s .architecture)) (keeps s) d → Compared c d → firstChoice s ≡ some c
       by-order d e g (same q) = e ∙ ap some (sym q)
       by-order d e g (before b) = absurd (true≢false (sym (f .passing) ∙ g .earlier c (f .fitting) b))
       by-order d e g (after b) = absurd (true≢false (sym (g .passing) ∙ f .earlier d (g .fitting) b))

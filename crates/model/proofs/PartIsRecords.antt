@@ -5,7 +5,8 @@ use Prim.Native.Nat.{ℕ, zero, suc, _+_, _*_, _<_}
 use native.Mathlib.Nat.{suc-mul, add-zero, add-suc, suc-add, zero-add}
 use native.Mathlib.Omega.{arith}
 use lib.ListN.{length, replicate, length-append, length-replicate}
-use Rattle.model.specs.Sheet.{Process, Sheet, byte, EN}
+use Rattle.model.specs.Sheet.{Process, Architecture}
+use Rattle.model.specs.Reading.{byte, EN}
 use Rattle.model.specs.Compose.{rowLength}
 use Rattle.model.specs.Book.{Slot, due, entry, records, allRecords, form, recordsLength, partStart, partEnd}
 
@@ -56,14 +57,14 @@ all-parts j (p ∷ ps) (suc i) l = more (all-parts (suc j) ps i (omega arith))
           ends = omega (arith, length-append own (h .before), records-length j p (p .bound) 0, h .ends);
         }
 
-pub part-right : (s : Sheet) (i : ℕ) → i < length (s .processes) → HasPart (form s) (s .processes) i i
+pub part-right : (a : Architecture) (i : ℕ) → i < length (a .processes) → HasPart (form a) (a .processes) i i
 unfolding form
-part-right s i l = more (subst (λ (n : ℕ). HasPart (allRecords 0 (s .processes)) (s .processes) n i) (zero-add i) (all-parts 0 (s .processes) i l))
+part-right a i l = more (subst (λ (n : ℕ). HasPart (allRecords 0 (a .processes)) (a .processes) n i) (zero-add i) (all-parts 0 (a .processes) i l))
   where
     end : List Slot
     end = due (byte EN 0) ∷ due (byte EN 1) ∷ []
 
-    more : HasPart (allRecords 0 (s .processes)) (s .processes) i i → HasPart (allRecords 0 (s .processes) ++ end) (s .processes) i i
+    more : HasPart (allRecords 0 (a .processes)) (a .processes) i i → HasPart (allRecords 0 (a .processes) ++ end) (a .processes) i i
     more h = record {
       process = h .process;
       before = h .before;

@@ -13,8 +13,10 @@ use Rattle.theory.proofs.Bools.{bool-cases}
 use Rattle.model.specs.declared.Refusal.{Refusal}
 use Rattle.model.specs.declared.Refusal.the-variants.{SheetTooShort, WrongMark, BadArchitecture, BadProcess, NoOwnerOrTooMany, BadAutomaton, BadEdge}
 use Rattle.model.specs.Mask.{if}
-use Rattle.model.specs.Sheet.{Process, Reading, proper, byte, short, marked, EN, ED, AU, PR, AR, arFault, prFault, allFault, auFault, edFault, processAt, edgeAt, readEnd, readEdge, readEdges, readAutomaton, readProcess, readProcesses, readSheet, refuse_when_else_, _then_}
+use Rattle.model.specs.Sheet.{Process, Architecture, Sheet, withProcess}
+use Rattle.model.specs.Reading.{Reading, refused, proper, byte, short, marked, EN, ED, AU, PR, AR, arFault, prFault, allFault, auFault, edFault, architectureAt, processAt, edgeAt, Front, readEnd, readEdge, readEdges, readAutomaton, readProcess, readProcesses, readFront, readSheet, refuse_when_else_, _then_}
 use Rattle.model.specs.Calls.{reply, checkOf, findSheet, findOf}
+use Rattle.model.proofs.ProperSheet.{front-read}
 
 -- ---- equal tests with equal rests are read alike
 infixr 20 alike_when_else_
@@ -86,42 +88,56 @@ module _ (a b : List ℕ) (same : Same a b) where
       alike BadEdge when ap (edFault variables states) own else
       then-same (edges-same variables states k (i + 6) (omega arith)) (λ j es. proper (own j ∷ es))
 
-  module _ (variables environment root : ℕ) where
-    -- AU, then at most 64 ED
-    automaton-same : (ps : List Process) (i : ℕ) → i ≤ 25 → readAutomaton variables environment root ps a i ≡ readAutomaton variables environment root ps b i
-    unfolding readAutomaton
-    automaton-same ps i l =
-        let f : Fields i = fields i (omega arith) in
-        let rejecting : byte a (i + 4) + 256 * byte a (i + 5) ≡ byte b (i + 4) + 256 * byte b (i + 5) = λ j. f .fourth j + 256 * f .fifth j in
-        alike SheetTooShort when short-same i 2 (omega arith) else
-        alike WrongMark when ap (λ (t : Bool). not t || eqb (length ps) 0) (marked-same i AU (omega arith)) else
-        alike SheetTooShort when short-same i 6 (omega arith) else
-        alike NoOwnerOrTooMany when refl {a = allFault variables environment ps} else
-        alike BadAutomaton when (λ j. auFault (f .second j) (f .third j) (rejecting j)) else
-        then-same (edges-same variables (byte a (i + 2)) 64 (i + 6) (omega arith) ∙ ap (λ (n : ℕ). readEdges variables n 64 b (i + 6)) (f .second))
-        (λ j es. proper record { variables = variables; environment = environment; root = root; processes = ps; states = f .second j; initial = f .third j; rejecting = rejecting j; edges = es })
+  -- AU, then at most 64 ED
+  automaton-same : (u : Architecture) (i : ℕ) → i ≤ 25 → readAutomaton u a i ≡ readAutomaton u b i
+  unfolding readAutomaton
+  automaton-same u i l =
+      let f : Fields i = fields i (omega arith) in
+      let rejecting : byte a (i + 4) + 256 * byte a (i + 5) ≡ byte b (i + 4) + 256 * byte b (i + 5) = λ j. f .fourth j + 256 * f .fifth j in
+      alike SheetTooShort when short-same i 2 (omega arith) else
+      alike WrongMark when ap (λ (t : Bool). not t || eqb (length (u .processes)) 0) (marked-same i AU (omega arith)) else
+      alike SheetTooShort when short-same i 6 (omega arith) else
+      alike NoOwnerOrTooMany when refl {a = allFault u} else
+      alike BadAutomaton when (λ j. auFault (f .second j) (f .third j) (rejecting j)) else
+      then-same (edges-same (u .variables) (byte a (i + 2)) 64 (i + 6) (omega arith) ∙ ap (λ (n : ℕ). readEdges (u .variables) n 64 b (i + 6)) (f .second))
+      (λ j es. proper record { states = f .second j; initial = f .third j; rejecting = rejecting j; edges = es })
 
-    -- at most k more PR of 5 bytes, then AU
-    processes-same : (k : ℕ) (ps : List Process) (i : ℕ) → i + 5 * k ≤ 25 → readProcesses variables environment root k ps a i ≡ readProcesses variables environment root k ps b i
-    unfolding readProcesses readProcess
-    processes-same zero ps i l = automaton-same ps i (omega arith)
-    processes-same (suc k) ps i l =
-        let f : Fields i = fields i (omega arith) in
-        let own : processAt a i ≡ processAt b i = λ j. record { inputs = f .second j; outputs = f .third j; bound = f .fourth j } in
-        unless marked-same i PR (omega arith) read automaton-same ps i (omega arith) else
-        alike SheetTooShort when short-same i 5 (omega arith) else
-        alike BadProcess when ap (prFault variables environment ps) own else
-        processes-same k (ps ++ (processAt a i ∷ [])) (i + 5) (omega arith) ∙ ap (λ (p : Process). readProcesses variables environment root k (ps ++ (p ∷ [])) b (i + 5)) own
+  -- at most k more PR of 5 bytes
+  processes-same : (k : ℕ) (u : Architecture) (i : ℕ) → i + 5 * k ≤ 25 → readProcesses k u a i ≡ readProcesses k u b i
+  unfolding readProcesses readProcess
+  processes-same zero u i l = refl
+  processes-same (suc k) u i l =
+      let f : Fields i = fields i (omega arith) in
+      let own : processAt a i ≡ processAt b i = λ j. record { inputs = f .second j; outputs = f .third j; bound = f .fourth j } in
+      unless marked-same i PR (omega arith) read refl else
+      alike SheetTooShort when short-same i 5 (omega arith) else
+      alike BadProcess when ap (prFault u) own else
+      processes-same k (withProcess u (processAt a i)) (i + 5) (omega arith) ∙ ap (λ (p : Process). readProcesses k (withProcess u p) b (i + 5)) own
 
-  sheet-same : readSheet a ≡ readSheet b
-  unfolding readSheet
-  sheet-same =
+  -- the front
+  front-same : readFront a ≡ readFront b
+  unfolding readFront
+  front-same =
       let f : Fields 0 = fields 0 (omega arith) in
+      let own : architectureAt a ≡ architectureAt b = λ j. record { variables = f .second j; environment = f .third j; root = f .fourth j; processes = [] } in
       alike SheetTooShort when short-same 0 2 (omega arith) else
       alike WrongMark when ap not (marked-same 0 AR (omega arith)) else
       alike SheetTooShort when short-same 0 5 (omega arith) else
-      alike BadArchitecture when (λ j. arFault (f .second j) (f .third j) (f .fourth j)) else
-      processes-same (byte a 2) (byte a 3) (byte a 4) 4 [] 5 (omega arith) ∙ λ j. readProcesses (f .second j) (f .third j) (f .fourth j) 4 [] b 5
+      alike BadArchitecture when ap arFault own else
+      processes-same 4 (architectureAt a) 5 (omega arith) ∙ ap (λ (u : Architecture). readProcesses 4 u b 5) own
+
+  -- a front ends within 25 bytes, so that what is behind it is read alike
+  behind : List ℕ → Front → Reading Sheet
+  behind x f = readAutomaton (f .architecture) x (f .end) then λ u. proper record { architecture = f .architecture; automaton = u }
+
+  behind-same : (k : Reading Front) → readFront b ≡ k → _then_ k (behind a) ≡ _then_ k (behind b)
+  unfolding _then_ behind
+  behind-same (refused r) e = refl
+  behind-same (proper f) e = then-same (automaton-same (f .architecture) (f .end) (front-read b f e .1)) refl
+
+  sheet-same : readSheet a ≡ readSheet b
+  unfolding readSheet behind
+  sheet-same = ap (λ (k : Reading Front). _then_ k (behind a)) front-same ∙ behind-same (readFront b) refl
 
 pub read-prefix : (b : List ℕ) → readSheet (take 418 b) ≡ readSheet b
 read-prefix b = sheet-same (take 418 b) b (taken-same b)

@@ -1,13 +1,13 @@
 -- 01, "The order of choices": a choice is one row of entries, and the first entry that differs decides.
 use mathlib.Core.Path.{_≡_}
 use mathlib.Core.Bool.{Bool, true, false, _&&_}
-use mathlib.Core.List.{List, [], _∷_, _++_, map, List·Memᴰ}
+use mathlib.Core.List.{List, [], _∷_, _++_, map}
 use Prim.Native.Nat.{ℕ, zero, suc, _-_, _*_, _^_, _<_, min}
 use lib.Dec.{ltb}
-use lib.ListN.{replicate, take, drop}
-use Rattle.theory.specs.Lists.{filter}
-use Rattle.model.specs.Mask.{within, count, from}
-use Rattle.model.specs.Sheet.{Process, Sheet}
+use lib.ListN.{length, replicate, take, drop}
+use Rattle.theory.specs.Lists.{filter, Pairwise, from}
+use Rattle.model.specs.Mask.{within, count}
+use Rattle.model.specs.Sheet.{Process, Architecture}
 use Rattle.model.specs.Compose.{rowLength, processLength}
 
 -- what an entry is: a mask within these outputs, or a next state below this bound
@@ -26,7 +26,7 @@ unfoldable pub values : Entry → List ℕ
 unfolding filter may from
 values e = filter (may e) (from 256 0)
 
--- a row: the output mask and then the next states in place order
+-- a row: its output mask, and behind it the next states by their indexes
 unfoldable pub row : Process → List Entry
 unfolding count
 row p = output (p .outputs) ∷ replicate (2 ^ count (p .inputs)) (next (p .bound))
@@ -42,10 +42,10 @@ unfolding times row
 rows [] = []
 rows (p ∷ ps) = times (p .bound) (row p) ++ rows ps
 
--- the entries of a choice of the sheet
-unfoldable pub entries : Sheet → List Entry
+-- the entries of a choice
+unfoldable pub entries : Architecture → List Entry
 unfolding rows
-entries s = rows (s .processes)
+entries a = rows (a .processes)
 
 -- each entry has a value that it may have
 pub data Fits : List Entry → List ℕ → Type 0 where
@@ -53,8 +53,8 @@ pub data Fits : List Entry → List ℕ → Type 0 where
   also : {e : Entry} {es : List Entry} {v : ℕ} {c : List ℕ} → may e v ≡ true → Fits es c → Fits (e ∷ es) (v ∷ c)
 
 -- a choice fixes every row of every process
-abbrev pub IsChoice : Sheet → List ℕ → Type 0
-IsChoice s c = Fits (entries s) c
+abbrev pub IsChoice : Architecture → List ℕ → Type 0
+IsChoice a c = Fits (entries a) c
 
 -- the same as a test; what follows the entries is ignored
 unfoldable pub fits : List Entry → List ℕ → Bool
@@ -63,7 +63,11 @@ fits [] c = true
 fits (e ∷ es) [] = false
 fits (e ∷ es) (v ∷ c) = may e v && fits es c
 
--- ---- tables with fewer states stand for the choice whose missing rows are all zeros
+-- the choice at the front of the tables
+abbrev pub chosen : Architecture → List ℕ → List ℕ
+chosen a tables = take (length (entries a)) tables
+
+-- ---- tables with fewer states, filled up with rows of zeros
 -- the processes with these bounds, where they are lower
 unfoldable pub lowered : List Process → List ℕ → List Process
 lowered [] bs = []
@@ -80,19 +84,14 @@ padRows (p ∷ ps) (b ∷ bs) c =
     take n c ++ replicate (processLength p - n) 0 ++ padRows ps bs (drop n c)
 
 -- the choice that these tables stand for
-unfoldable pub padded : Sheet → List ℕ → List ℕ → List ℕ
+unfoldable pub padded : Architecture → List ℕ → List ℕ → List ℕ
 unfolding padRows
-padded s bs c = padRows (s .processes) bs c
+padded a bs c = padRows (a .processes) bs c
 
 -- ---- the order of choices: the first entry that differs decides
 pub data Before : List ℕ → List ℕ → Type 0 where
   lower : {v w : ℕ} {c d : List ℕ} → v < w → Before (v ∷ c) (w ∷ d)
   later : {v : ℕ} {c d : List ℕ} → Before c d → Before (v ∷ c) (v ∷ d)
-
--- R holds between each choice and all that follow it
-pub data Pairwise (R : List ℕ → List ℕ → Type 0) : List (List ℕ) → Type 0 where
-  empty : Pairwise R []
-  then : {c : List ℕ} {cs : List (List ℕ)} → ((d : List ℕ) → List·Memᴰ d cs → R c d) → Pairwise R cs → Pairwise R (c ∷ cs)
 
 -- in the order of choices
 abbrev pub Ordered : List (List ℕ) → Type 0

@@ -1,5 +1,6 @@
 pub mod Mask
 pub mod Sheet
+pub mod Reading
 pub mod Compose
 pub mod Choice
 pub mod RunGraph
@@ -8,3 +9,4 @@ pub mod Book
 pub mod Calls
 pub mod Numbers
 pub mod Demands
+pub mod BenchCases

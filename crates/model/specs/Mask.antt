@@ -1,6 +1,5 @@
 -- 01, "The sheet file": a mask is a number, and has bit i for variable i.
 use mathlib.Core.Bool.{Bool, true, false, not}
-use mathlib.Core.List.{List, [], _∷_}
 use Prim.Native.Nat.{ℕ, zero, suc, _+_, _*_, _/_, _%_, _^_}
 use lib.Dec.{eqb, leb}
 use lib.Bits.{bitAnd}
@@ -39,8 +38,3 @@ packed (suc k) m v = (m % 2) * (v % 2) + (1 + m % 2) * packed k (m / 2) (v / 2)
 unfoldable pub pack : ℕ → ℕ → ℕ
 unfolding packed
 pack m v = packed 8 m v
-
--- i, i + 1, .., n of them
-unfoldable pub from : ℕ → ℕ → List ℕ
-from zero i = []
-from (suc n) i = i ∷ from n (suc i)

@@ -4,7 +4,9 @@ use mathlib.Core.List.{List, [], _∷_}
 use Prim.Native.Nat.{ℕ}
 use Rattle.model.specs.declared.Finding.the-variants.{Yes, No}
 use Rattle.model.specs.declared.Verdict.{Verdict}
-use Rattle.model.specs.Sheet.{Sheet, proper, readSheet}
+use Rattle.model.specs.Sheet.{Sheet}
+use Rattle.model.specs.Reading.{proper, readSheet}
+use Rattle.model.specs.BenchCases.{sheetE, edge, bookE}
 use Rattle.model.specs.Calls.{findSheet, judgeOf}
 use Rattle.model.specs.Demands.{demand-1, demand-2, demand-3, sizes}
 use Rattle.model.proofs.DemandOne.{first-demand}
@@ -29,15 +31,7 @@ pub exact-sizes : (sheet : List ℕ) (s : Sheet) (is-proper : readSheet sheet �
 exact-sizes = all-sizes
 
 -- ---- an example
--- case H: an edge from state 0 to state 1, and one of the two rejects
-abbrev sheetH : ℕ → List ℕ
-sheetH rejecting =
-    0x41 ∷ 0x52 ∷ 0 ∷ 0 ∷ 0 ∷ 0x50 ∷ 0x52 ∷ 0 ∷ 0 ∷ 1 ∷ 0x41 ∷ 0x55 ∷ 2 ∷ 0 ∷ rejecting ∷ 0 ∷ 0x45 ∷ 0x44 ∷ 0 ∷ 1 ∷ 0 ∷ 0 ∷ 0x45 ∷ 0x4E ∷ []
-
-abbrev bookH : List ℕ
-bookH = 0x54 ∷ 0x42 ∷ 0 ∷ 0 ∷ 0 ∷ 0 ∷ 0x45 ∷ 0x4E ∷ []
-
--- the number rises where a rejecting state is entered: strictness on the vertex left would turn both verdicts round
-pub strict-on-entering : (judgeOf (sheetH 1) bookH (0 ∷ 0 ∷ []) ≡ Verdict.Found Yes) × (judgeOf (sheetH 2) bookH (0 ∷ 0 ∷ []) ≡ Verdict.Found No)
+-- case H: the number rises where a rejecting state is entered: strictness on the vertex left would turn both verdicts round
+pub strict-on-entering : (judgeOf (sheetE 1 2 1 (edge 0 1)) bookE (0 ∷ 0 ∷ []) ≡ Verdict.Found Yes) × (judgeOf (sheetE 1 2 2 (edge 0 1)) bookE (0 ∷ 0 ∷ []) ≡ Verdict.Found No)
 unfolding judgeOf
 strict-on-entering = (refl, refl)

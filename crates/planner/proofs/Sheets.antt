@@ -1,14 +1,13 @@
--- What a sheet that was read is: the refusal, or a proper sheet in order. Assumes nothing.
+-- What a sheet that was read is: the refusal, or a proper sheet.
 use mathlib.Core.Path.{_≡_}
 use mathlib.Core.List.{List}
 use Prim.Native.Nat.{ℕ}
 use Rattle.model.specs.declared.Refusal.{Refusal}
 use Rattle.model.specs.declared.Reply.{Reply}
-use Rattle.model.specs.Sheet.{refused, proper, readSheet}
-use Rattle.model.proofs.ProperSheet.{Good, sheet-good}
+use Rattle.model.specs.Reading.{refused, proper, readSheet}
 use Rattle.sheet.specs.declared.Reading.{Reading}
-use Rattle.sheet.specs.Struct.{sheetOf, readingOf}
-use Rattle.sheet.proofs.Sheets.{read-refused, read-proper}
+use Rattle.sheet.specs.Struct.{sheetOf, Arrays, IsProper, readingOf}
+use Rattle.sheet.proofs.Sheets.{read-refused, read-proper, read-is-proper}
 
 module _ (sheet : List ℕ) (r : Reading) (e : readingOf r ≡ readSheet sheet) where
   pub refusal-is : (q : Refusal) → r .answer ≡ Reply.Refused q → readSheet sheet ≡ refused q
@@ -18,5 +17,5 @@ module _ (sheet : List ℕ) (r : Reading) (e : readingOf r ≡ readSheet sheet) 
     pub sheet-is : readSheet sheet ≡ proper (sheetOf (r .sheet))
     sheet-is = read-proper (readSheet sheet) (r .answer) (r .sheet) e h
 
-    pub good-is : Good (sheetOf (r .sheet))
-    good-is = sheet-good sheet (sheetOf (r .sheet)) sheet-is
+    pub proper-is : Arrays (r .sheet) → IsProper (r .sheet)
+    proper-is arrays = read-is-proper sheet r e arrays h

@@ -5,7 +5,6 @@ ghost use Rattle.model.specs.Calls.{part as partIn};
 ghost use Rattle.book.specs.Answers.{afterRead, afterPart};
 use book::Part;
 use book::TablesRead;
-use composition::Architecture;
 use model::Outcome;
 use model::Reply;
 use model::Verdict;
@@ -46,7 +45,8 @@ pub fn write(sheet: &[u8], tables: &[u8; 272], book: &mut [u8]) -> Reply
         Reply::Refused(refusal) => Reply::Refused(refusal),
         Reply::Done => {
             let read = reading.sheet;
-            book::write_for(Architecture::of(read), tables, book)
+            let a = read.architecture;
+            book::write_for(a, tables, book)
         }
     }
 }
@@ -61,7 +61,8 @@ pub fn read(sheet: &[u8], book: &[u8]) -> TablesRead
         Reply::Refused(refusal) => book::unread(refusal),
         Reply::Done => {
             let read = reading.sheet;
-            book::read_for(Architecture::of(read), book)
+            let a = read.architecture;
+            book::read_for(a, book)
         }
     }
 }
@@ -76,7 +77,8 @@ pub fn range(sheet: &[u8], book: &[u8], process: usize) -> Part
         Reply::Refused(refusal) => book::nowhere(refusal),
         Reply::Done => {
             let read = reading.sheet;
-            book::range_for(Architecture::of(read), book, process)
+            let a = read.architecture;
+            book::range_for(a, book, process)
         }
     }
 }

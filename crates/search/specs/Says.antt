@@ -5,9 +5,8 @@ use mathlib.Core.Option.{none, some}
 use Prim.Native.Nat.{ℕ}
 use lib.ListN.{length}
 use Rattle.model.specs.Sheet.{Sheet}
-use Rattle.model.specs.Choice.{entries}
+use Rattle.model.specs.Choice.{entries, chosen}
 use Rattle.model.specs.Computed.{firstChoice}
-use Rattle.graph.specs.Filled.{chosen}
 use Rattle.partial.specs.Partial.{Agrees}
 use Rattle.partial.specs.Says.{NoneKeeps}
 use Rattle.search.specs.Search.{Witness}
@@ -23,7 +22,7 @@ pub record Refuted (s : Sheet) (values unset newValues newUnset : List ℕ) : Ty
 -- a choice that completes the partial one, and keeps the sheet, is found
 pub record Found (s : Sheet) (values unset newValues : List ℕ) : Type 0 where
   pub witness : Witness s newValues
-  pub agrees : Agrees (length (entries s)) values unset (chosen s newValues)
+  pub agrees : Agrees (length (entries (s .architecture))) values unset (chosen (s .architecture) newValues)
 
 -- of the partial choice at entry and at exit
 abbrev pub Finds : Sheet → (values unset newValues newUnset : List ℕ) → Searched → Type 0
@@ -33,4 +32,4 @@ Finds s values unset newValues newUnset a.Tables = Found s values unset newValue
 -- no choice keeps the sheet; or the witness is the first that does
 abbrev pub Leads : Sheet → List ℕ → Searched → Type 0
 Leads s witness a.Nothing = firstChoice s ≡ none
-Leads s witness a.Tables = Witness s witness × (firstChoice s ≡ some (chosen s witness))
+Leads s witness a.Tables = Witness s witness × (firstChoice s ≡ some (chosen (s .architecture) witness))

@@ -4,18 +4,17 @@ use mathlib.Core.Bool.{true, false}
 use mathlib.Core.List.{List}
 use Prim.Native.Nat.{ℕ, zero, suc, _+_, _<_, _≤_}
 use lib.ListN.{length, getD}
-use Rattle.model.specs.Sheet.{Sheet}
-use Rattle.model.specs.Choice.{Entry, entries, may, IsChoice}
+use Rattle.model.specs.Sheet.{Architecture, Sheet}
+use Rattle.model.specs.Choice.{Entry, entries, may, IsChoice, chosen}
 use Rattle.model.specs.Computed.{loops}
-use Rattle.graph.specs.Filled.{chosen}
-use Rattle.layout.specs.Codes.{kindsOf}
+use Rattle.choice.specs.Kinds.{kindsOf}
 
 -- a partial choice in order: an open entry has the value 0
-pub record Ready (s : Sheet) (values unset : List ℕ) : Type 0 where
+pub record Ready (a : Architecture) (values unset : List ℕ) : Type 0 where
   pub values-long : length values ≡ 272
   pub unset-long : length unset ≡ 272
-  pub choice : IsChoice s (chosen s values)
-  pub zero : (i : ℕ) → i < length (entries s) → ¬ (getD unset i 0 ≡ 0) → (getD unset i 0 ≡ 1) × (getD values i 0 ≡ 0)
+  pub choice : IsChoice a (chosen a values)
+  pub zero : (i : ℕ) → i < length (entries a) → ¬ (getD unset i 0 ≡ 0) → (getD unset i 0 ≡ 1) × (getD values i 0 ≡ 0)
 
 -- how many of the first n entries are open
 unfoldable pub opens : List ℕ → ℕ → ℕ
@@ -30,16 +29,16 @@ pub record NextValue (e : Entry) (from r : ℕ) : Type 0 where
   pub skipped : (u : ℕ) → u < r → may e u ≡ true → u < from
 
 -- the words of the entries of a choice
-pub record Kinds (s : Sheet) (kinds : List ℕ) : Type 0 where
+pub record Kinds (a : Architecture) (kinds : List ℕ) : Type 0 where
   pub long : length kinds ≡ 272
-  pub few : length (entries s) ≤ 272
-  pub are : kindsOf kinds (length (entries s)) ≡ entries s
+  pub few : length (entries a) ≤ 272
+  pub are : kindsOf kinds (length (entries a)) ≡ entries a
 
 -- a choice that keeps the sheet is at the front of the tables
 pub record Witness (s : Sheet) (tables : List ℕ) : Type 0 where
   pub long : length tables ≡ 272
-  pub choice : IsChoice s (chosen s tables)
-  pub keeps : loops s (chosen s tables) ≡ false
+  pub choice : IsChoice (s .architecture) (chosen (s .architecture) tables)
+  pub keeps : loops s (chosen (s .architecture) tables) ≡ false
 
 -- the entries before i are settled as in the tables, those from i on are open
 pub record Begun (n : ℕ) (tables : List ℕ) (i : ℕ) (values unset : List ℕ) : Type 0 where
@@ -54,7 +53,7 @@ Alike i c d = (k : ℕ) → k < i → getD c k 0 ≡ getD d k 0
 
 -- a choice with the entries of the tables before i, and a lower one at i, does not keep the sheet
 abbrev pub Lowest : Sheet → ℕ → List ℕ → Type 0
-Lowest s i tables = (c : List ℕ) → IsChoice s c → Alike i c tables → getD c i 0 < getD tables i 0 → loops s c ≡ true
+Lowest s i tables = (c : List ℕ) → IsChoice (s .architecture) c → Alike i c tables → getD c i 0 < getD tables i 0 → loops s c ≡ true
 
 -- the new witness has the entries of the old one before i, and at i the least value with which a choice keeps the sheet
 pub record Least (s : Sheet) (i : ℕ) (old new : List ℕ) : Type 0 where

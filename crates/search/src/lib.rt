@@ -3,15 +3,13 @@ ghost use mathlib.Core.Path.{_≡_};
 ghost use Prim.Native.Nat.{_<_, _≤_};
 ghost use lib.ListN.{length};
 ghost use Rattle.model.specs.Choice.{entries as entriesOf};
-ghost use Rattle.model.proofs.ProperSheet.{Good};
-ghost use Rattle.sheet.specs.Struct.{sheetOf};
-ghost use Rattle.composition.specs.Struct.{ArchitectureOf};
-ghost use Rattle.layout.specs.Codes.{kindOf};
+ghost use Rattle.architecture.specs.Struct.{architectureOf};
+ghost use Rattle.sheet.specs.Struct.{sheetOf, IsProper};
+ghost use Rattle.choice.specs.Kinds.{kindOf};
 ghost use Rattle.lookup.specs.Lookup.{Prepared};
 ghost use Rattle.partial.specs.Says.{Work};
 ghost use Rattle.search.specs.Search.{Ready, opens, NextValue, Kinds, Witness, Begun, Least};
 ghost use Rattle.search.specs.Says.{Finds, Leads};
-use composition::Architecture;
 use partial::Explored;
 use sheet::Sheet;
 
@@ -27,7 +25,7 @@ fn next_value(kind: u16, from: usize) -> usize
 {
     let mut v = from;
     while v < 256 {
-        if layout::may_be(kind, v as u8) {
+        if choice::may_be(kind, v as u8) {
             return v;
         }
         v += 1;
@@ -41,7 +39,6 @@ pub fn search(
     unset: &mut [u8; 272],
     left: usize,
     sheet: Sheet,
-    a: Architecture,
     rows: &[u16],
     indexes: &[u8],
     met: &[u16],
@@ -52,11 +49,11 @@ pub fn search(
     targets: &mut [u16; 4096],
     steps: &mut [u16; 4096],
 ) -> Searched
-    requires { ⌜ Good (sheetOf sheet) ⌝ }
-    requires { ⌜ ArchitectureOf (sheetOf sheet) a × Prepared (sheetOf sheet) a (now rows) (now indexes) (now met) ⌝ }
-    requires { ⌜ Kinds (sheetOf sheet) (now kinds) ⌝ }
-    requires { ⌜ Ready (sheetOf sheet) (now values) (now unset) ⌝ }
-    requires { ⌜ opens (now unset) (length (entriesOf (sheetOf sheet))) ≤ left ⌝ }
+    requires { ⌜ IsProper sheet ⌝ }
+    requires { ⌜ Prepared sheet (now rows) (now indexes) (now met) ⌝ }
+    requires { ⌜ Kinds (architectureOf (sheet .architecture)) (now kinds) ⌝ }
+    requires { ⌜ Ready (architectureOf (sheet .architecture)) (now values) (now unset) ⌝ }
+    requires { ⌜ opens (now unset) (length (entriesOf (architectureOf (sheet .architecture)))) ≤ left ⌝ }
     requires { ⌜ Work (now numbers) (now stack) (now waiting) (now targets) (now steps) ⌝ }
     ensures { λ r. ⌜ Finds (sheetOf sheet) (now (values .entry)) (now (unset .entry)) (now (values .exit)) (now (unset .exit)) r ⌝ }
     ensures { λ _. ⌜ Work (now (numbers .exit)) (now (stack .exit)) (now (waiting .exit)) (now (targets .exit)) (now (steps .exit)) ⌝ }
@@ -68,7 +65,6 @@ pub fn search(
         targets,
         steps,
         sheet,
-        a,
         rows,
         indexes,
         met,
@@ -92,7 +88,6 @@ pub fn search(
                     unset,
                     left - 1,
                     sheet,
-                    a,
                     rows,
                     indexes,
                     met,
@@ -147,7 +142,6 @@ fn settle(
     values: &mut [u8; 272],
     unset: &mut [u8; 272],
     sheet: Sheet,
-    a: Architecture,
     rows: &[u16],
     indexes: &[u8],
     met: &[u16],
@@ -158,10 +152,10 @@ fn settle(
     targets: &mut [u16; 4096],
     steps: &mut [u16; 4096],
 )
-    requires { ⌜ Good (sheetOf sheet) ⌝ }
-    requires { ⌜ ArchitectureOf (sheetOf sheet) a × Prepared (sheetOf sheet) a (now rows) (now indexes) (now met) ⌝ }
-    requires { ⌜ Kinds (sheetOf sheet) (now kinds) ⌝ }
-    requires { ⌜ (n ≡ length (entriesOf (sheetOf sheet))) × (i < n) ⌝ }
+    requires { ⌜ IsProper sheet ⌝ }
+    requires { ⌜ Prepared sheet (now rows) (now indexes) (now met) ⌝ }
+    requires { ⌜ Kinds (architectureOf (sheet .architecture)) (now kinds) ⌝ }
+    requires { ⌜ (n ≡ length (entriesOf (architectureOf (sheet .architecture)))) × (i < n) ⌝ }
     requires { ⌜ Witness (sheetOf sheet) (now witness) ⌝ }
     requires { ⌜ Work (now numbers) (now stack) (now waiting) (now targets) (now steps) ⌝ }
     ensures { λ _. ⌜ Least (sheetOf sheet) i (now (witness .entry)) (now (witness .exit)) ⌝ }
@@ -179,7 +173,6 @@ fn settle(
             unset,
             n,
             sheet,
-            a,
             rows,
             indexes,
             met,
@@ -208,7 +201,6 @@ pub fn first(
     values: &mut [u8; 272],
     unset: &mut [u8; 272],
     sheet: Sheet,
-    a: Architecture,
     rows: &[u16],
     indexes: &[u8],
     met: &[u16],
@@ -219,10 +211,10 @@ pub fn first(
     targets: &mut [u16; 4096],
     steps: &mut [u16; 4096],
 ) -> Searched
-    requires { ⌜ Good (sheetOf sheet) ⌝ }
-    requires { ⌜ ArchitectureOf (sheetOf sheet) a × Prepared (sheetOf sheet) a (now rows) (now indexes) (now met) ⌝ }
-    requires { ⌜ Kinds (sheetOf sheet) (now kinds) ⌝ }
-    requires { ⌜ n ≡ length (entriesOf (sheetOf sheet)) ⌝ }
+    requires { ⌜ IsProper sheet ⌝ }
+    requires { ⌜ Prepared sheet (now rows) (now indexes) (now met) ⌝ }
+    requires { ⌜ Kinds (architectureOf (sheet .architecture)) (now kinds) ⌝ }
+    requires { ⌜ n ≡ length (entriesOf (architectureOf (sheet .architecture))) ⌝ }
     requires { ⌜ length (now witness) ≡ 272 ⌝ }
     requires { ⌜ Work (now numbers) (now stack) (now waiting) (now targets) (now steps) ⌝ }
     ensures { λ r. ⌜ Leads (sheetOf sheet) (now (witness .exit)) r ⌝ }
@@ -233,7 +225,6 @@ pub fn first(
         unset,
         n,
         sheet,
-        a,
         rows,
         indexes,
         met,
@@ -258,7 +249,6 @@ pub fn first(
             values,
             unset,
             sheet,
-            a,
             rows,
             indexes,
             met,

@@ -1,24 +1,21 @@
--- Laws of what the struct stands for. Assumes nothing.
+-- What a sheet that was read is: by the answer, a refusal or a proper sheet; and what its two parts then are. The same of a front, and of an automaton.
 use mathlib.Core.Path.{_≡_, refl, sym, ap, _∙_}
-use mathlib.Core.List.{List, [], _∷_, _++_}
-use Prim.Native.Nat.{ℕ, zero, suc, _+_, _<_, _≤_}
-use native.Mathlib.Numerals.{add-one}
-use native.Mathlib.Nat.{le-refl}
+use mathlib.Core.List.{List}
+use Prim.Native.Nat.{ℕ}
 use native.Mathlib.Omega.{arith}
-use lib.ListN.{length, set, length-append}
-use lib.Seq.{getD-set-same, getD-set-other}
 use Rattle.model.specs.declared.Refusal.{Refusal}
 use Rattle.model.specs.declared.Reply.{Reply}
-use Rattle.model.specs.Sheet.{Reading, refused, proper}
-use Rattle.model.specs.Calls.{reply}
-use Rattle.sheet.specs.declared.Sheet.{Sheet}
-use Rattle.sheet.specs.Struct.{processesOf, edgesOf, sheetOf, readingAs}
 use Rattle.model.specs.Sheet as model
-
-pub processes-length : (n : ℕ) (i o b : List ℕ) → length (processesOf n i o b) ≡ n
-unfolding processesOf
-processes-length zero i o b = refl
-processes-length (suc n) i o b = simp length-append (omega (arith, processes-length n i o b))
+use Rattle.model.specs.Reading.{Reading, refused, proper, Front, readSheet}
+use Rattle.model.specs.Calls.{reply}
+use Rattle.model.proofs.ProperSheet.{sheet-proper}
+use Rattle.architecture.specs.declared.Architecture.{Architecture}
+use Rattle.architecture.specs.Struct as architecture
+use Rattle.automaton.specs.declared.Automaton.{Automaton}
+use Rattle.automaton.specs.Struct as automaton
+use Rattle.sheet.specs.declared.Sheet.{Sheet}
+use Rattle.sheet.specs.declared.Reading as Struct
+use Rattle.sheet.specs.Struct.{sheetOf, Arrays, IsProper, readingAs, readingOf, frontAs, automatonAs}
 
 -- the answer is that of the reading
 pub answer-is : (a : Reply) (s : Sheet) → reply (readingAs a s) ≡ a
@@ -35,41 +32,44 @@ pub read-proper : (m : Reading model.Sheet) (a : Reply) (s : Sheet) → readingA
 unfolding readingAs
 read-proper m a s e h = sym e ∙ ap (λ (x : Reply). readingAs x s) h
 
--- how many processes were read
-pub process-count : (s : Sheet) → length (sheetOf s .processes) ≡ s .processes
-unfolding sheetOf
-process-count s = processes-length (s .processes) (s .inputs) (s .outputs) (s .bounds)
+-- the architecture of a proper sheet is proper
+pub architecture-proper : (s : Sheet) → IsProper s → architecture.IsProper (s .architecture)
+architecture-proper s z = record { arrays = z .arrays .architecture; proper = z .proper .architecture }
 
--- no edge was read
-pub no-edges : (s : Sheet) → s .edges ≡ 0 → sheetOf s .edges ≡ []
-unfolding sheetOf edgesOf
-no-edges s e = rw e
+-- and so is its automaton
+pub automaton-proper : (s : Sheet) → IsProper s → automaton.IsProper (s .architecture .variables) (s .automaton)
+unfolding architecture.architectureOf
+automaton-proper s z = record { arrays = z .arrays .automaton; proper = z .proper .automaton }
 
--- ---- a store at n leaves the entries before it
-module _ (n : ℕ) (i o b : List ℕ) (x y z : ℕ) where
-  processes-before : (k : ℕ) → k ≤ n → processesOf k (set i n x) (set o n y) (set b n z) ≡ processesOf k i o b
-  unfolding processesOf
-  processes-before zero h = refl
-  processes-before (suc k) h =
-      let ne : k ≡ n → ⊥ = λ e. omega arith in
-      rw (processes-before k (omega arith), getD-set-other i n k x 0 ne, getD-set-other o n k y 0 ne, getD-set-other b n k z 0 ne)
+-- a sheet that was read without a refusal is a proper one
+pub read-is-proper : (b : List ℕ) (r : Struct.Reading) → readingOf r ≡ readSheet b → Arrays (r .sheet) → r .answer ≡ Reply.Done → IsProper (r .sheet)
+read-is-proper b r e z done = record { arrays = z; proper = sheet-proper b (sheetOf (r .sheet)) (read-proper (readSheet b) (r .answer) (r .sheet) e done) }
 
-  pub processes-more : n < length i → n < length o → n < length b
-      → processesOf (n + 1) (set i n x) (set o n y) (set b n z) ≡ processesOf n i o b ++ (record { inputs = x; outputs = y; bound = z } ∷ [])
-  unfolding processesOf
-  processes-more hi ho hb =
-      rw (add-one n, processes-before n (le-refl n), getD-set-same i n x 0 hi, getD-set-same o n y 0 ho, getD-set-same b n z 0 hb)
+-- ---- a front, by the answer
+module _ (m : Reading Front) (answer : Reply) (a : Architecture) (end : ℕ) (e : frontAs answer a end ≡ m) where
+  pub front-refused : (r : Refusal) → answer ≡ Reply.Refused r → m ≡ refused r
+  unfolding frontAs
+  front-refused r h = sym e ∙ ap (λ (x : Reply). frontAs x a end) h
 
-module _ (n : ℕ) (f t p q : List ℕ) (x y z w : ℕ) where
-  edges-before : (k : ℕ) → k ≤ n → edgesOf k (set f n x) (set t n y) (set p n z) (set q n w) ≡ edgesOf k f t p q
-  unfolding edgesOf
-  edges-before zero h = refl
-  edges-before (suc k) h =
-      let ne : k ≡ n → ⊥ = λ e. omega arith in
-      rw (edges-before k (omega arith), getD-set-other f n k x 0 ne, getD-set-other t n k y 0 ne, getD-set-other p n k z 0 ne, getD-set-other q n k w 0 ne)
+  pub front-done : answer ≡ Reply.Done → m ≡ proper record { architecture = architecture.architectureOf a; end = end }
+  unfolding frontAs
+  front-done h = sym e ∙ ap (λ (x : Reply). frontAs x a end) h
 
-  pub edges-more : n < length f → n < length t → n < length p → n < length q
-      → edgesOf (n + 1) (set f n x) (set t n y) (set p n z) (set q n w) ≡ edgesOf n f t p q ++ (record { from = x; to = y; on = z; off = w } ∷ [])
-  unfolding edgesOf
-  edges-more hf ht hp hq =
-      rw (add-one n, edges-before n (le-refl n), getD-set-same f n x 0 hf, getD-set-same t n y 0 ht, getD-set-same p n z 0 hp, getD-set-same q n w 0 hq)
+-- and the answer, by the front
+pub front-proper : (answer : Reply) (a : Architecture) (end : ℕ) (f : Front) → frontAs answer a end ≡ proper f
+    → (answer ≡ Reply.Done) × (architecture.architectureOf a ≡ f .architecture) × (end ≡ f .end)
+unfolding frontAs
+front-proper Reply.Done a end f e =
+    let same : record { architecture = architecture.architectureOf a; end = end } ≡ f = cc in
+    (refl, ap (λ (x : Front). x .architecture) same, ap (λ (x : Front). x .end) same)
+front-proper (Reply.Refused r) a end f e = let z : _≡_ {A = ℕ} 0 1 = cc in absurd (omega arith)
+
+-- ---- an automaton, by the answer
+module _ (m : Reading model.Automaton) (answer : Reply) (u : Automaton) (e : automatonAs answer u ≡ m) where
+  pub automaton-refused : (r : Refusal) → answer ≡ Reply.Refused r → m ≡ refused r
+  unfolding automatonAs
+  automaton-refused r h = sym e ∙ ap (λ (x : Reply). automatonAs x u) h
+
+  pub automaton-done : answer ≡ Reply.Done → m ≡ proper (automaton.automatonOf u)
+  unfolding automatonAs
+  automaton-done h = sym e ∙ ap (λ (x : Reply). automatonAs x u) h

@@ -1,4 +1,4 @@
--- Tests that passed or failed, and what a reading then is. Assumes nothing.
+-- Tests that passed or failed, and what a reading then is.
 use mathlib.Core.Path.{_≡_, sym, ap, _∙_}
 use mathlib.Core.Bool.{Bool, true, false, not}
 use mathlib.Core.List.{List}
@@ -7,10 +7,10 @@ use native.Mathlib.Omega.{arith}
 use lib.Dec.{eqb}
 use lib.ListN.{length}
 use borrow.Author.Tests.{lt-ltb, le-ltb, eq-eqb}
-use Rattle.model.specs.declared.Refusal.{Refusal}
-use Rattle.model.specs.Sheet.{Sheet, Reading, refused, byte, short, marked, refuse_when_else_}
-use Rattle.sheet.specs.Struct.{Reads}
-use Rattle.sheet.specs.declared.Reading as Struct
+use Rattle.model.specs.Sheet.{Automaton}
+use Rattle.model.specs.Reading.{Reading, byte, short, marked}
+use Rattle.sheet.specs.declared.behind.AutomatonRead.{AutomatonRead}
+use Rattle.sheet.specs.Struct.{AutomatonReads}
 
 -- of a call's result r, which is t: `if !r` was taken, or left
 pub fails : {t r : Bool} → r ≡ t → not r ≡ true → not t ≡ true
@@ -18,16 +18,6 @@ fails e h = ap not (sym e) ∙ h
 
 pub passes : {t r : Bool} → r ≡ t → not r ≡ false → not t ≡ false
 passes e h = ap not (sym e) ∙ h
-
--- a test that passed refuses, and one that failed goes on
-module _ {A : Type 0} (r : Refusal) {t : Bool} (k : Reading A) where
-  pub stop : t ≡ true → refuse_when_else_ r t k ≡ refused r
-  unfolding refuse_when_else_
-  stop e = ap (λ (x : Bool). refuse_when_else_ r x k) e
-
-  pub go : t ≡ false → refuse_when_else_ r t k ≡ k
-  unfolding refuse_when_else_
-  go e = ap (λ (x : Bool). refuse_when_else_ r x k) e
 
 -- fewer than n bytes are left at i, or not
 module _ (b : List ℕ) (i n : ℕ) where
@@ -45,5 +35,5 @@ unfolding marked
 mark-rest b m i l h e = simp (enough b i 2 l h, eq-eqb _ _ e)
 
 -- a reading that is m is n, where these are the same
-pub reads-as : {r : Struct.Reading} {m n : Reading Sheet} → Reads r m → m ≡ n → Reads r n
-reads-as h e = record { is = h .is ∙ e; sized = h .sized }
+pub reads-as : {r : AutomatonRead} {m n : Reading Automaton} → AutomatonReads r m → m ≡ n → AutomatonReads r n
+reads-as h e = record { is = h .is ∙ e; arrays = h .arrays }

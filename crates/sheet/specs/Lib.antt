@@ -1,3 +1,2 @@
 pub mod Struct
-pub mod Grow
-pub mod CaseA
+pub mod Steps

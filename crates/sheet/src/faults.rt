@@ -1,10 +1,16 @@
 // What is wrong with the fields of a record: the conditions of the refusals 3 to 7.
 ghost use mathlib.Core.Path.{_≡_};
+ghost use mathlib.Core.List.{[]};
 ghost use Prim.Native.Nat.{_+_, _-_, _^_, _≤_};
-ghost use Rattle.model.specs.Mask.{beyond};
-ghost use Rattle.model.specs.Sheet.{composedStates, arFault, fieldFault, allFault, auFault, edFault};
-ghost use Rattle.sheet.specs.Struct.{sheetOf, Sized, allSet, outputsOf};
-use super::Sheet;
+ghost use Rattle.theory.specs.Lists.{all, from};
+ghost use Rattle.model.specs.Mask.{bit, beyond};
+ghost use Rattle.model.specs.Sheet.{composedStates};
+ghost use Rattle.model.specs.Reading.{arFault, fieldFault, allFault, auFault, edFault};
+ghost use Rattle.architecture.specs.Struct.{architectureOf, processesIn};
+ghost use Rattle.automaton.specs.Struct.{edgeOf};
+ghost use Rattle.sheet.specs.Struct.{outputsOf};
+use architecture::Architecture;
+use automaton::Edge;
 
 // The mask has a bit at or above n.
 fn is_beyond(mask: u16, n: u8) -> bool
@@ -25,7 +31,7 @@ fn lowest(n: u8) -> u8
 // The bits from `first` on, below `end`, are all set.
 fn all_set(mask: u8, first: u8, end: u8) -> bool
     requires { ⌜ end ≤ 8 ⌝ }
-    ensures { λ r. ⌜ r ≡ allSet (end - first) first mask ⌝ }
+    ensures { λ r. ⌜ r ≡ all (bit mask) (from (end - first) first) ⌝ }
 {
     let mut i = first;
     while i < end {
@@ -38,7 +44,7 @@ fn all_set(mask: u8, first: u8, end: u8) -> bool
 }
 
 pub fn ar_fault(variables: u8, environment: u8, root: u8) -> bool
-    ensures { λ r. ⌜ r ≡ arFault variables environment root ⌝ }
+    ensures { λ r. ⌜ r ≡ arFault (record { variables = variables; environment = environment; root = root; processes = [] }) ⌝ }
 {
     if 8 < variables {
         return true;
@@ -52,7 +58,7 @@ pub fn ar_fault(variables: u8, environment: u8, root: u8) -> bool
     is_beyond(root as u16, environment)
 }
 
-// A PR's own fields; whether an output is taken is seen by `takes`.
+// Of a PR by itself: whether an output is already taken is another question.
 pub fn field_fault(variables: u8, environment: u8, inputs: u8, outputs: u8, bound: u8) -> bool
     requires { ⌜ (variables ≤ 8) × (environment ≤ 4) ⌝ }
     ensures { λ r. ⌜ r ≡ fieldFault variables environment (record { inputs = inputs; outputs = outputs; bound = bound }) ⌝ }
@@ -78,13 +84,13 @@ pub fn field_fault(variables: u8, environment: u8, inputs: u8, outputs: u8, boun
     4 < bound
 }
 
-// Of the mask of all outputs, and the count of composed states.
-pub fn all_fault(sheet: Sheet, owned: u8, total: u16) -> bool
-    requires { ⌜ Sized sheet ⌝ }
-    requires { ⌜ (owned ≡ outputsOf (sheetOf sheet .processes)) × (total ≡ composedStates (sheet .environment) (sheetOf sheet .processes)) ⌝ }
-    ensures { λ r. ⌜ r ≡ allFault (sheet .variables) (sheet .environment) (sheetOf sheet .processes) ⌝ }
+// Of an architecture with the mask of all outputs and the count of composed states.
+pub fn all_fault(architecture: Architecture, owned: u8, total: u16) -> bool
+    requires { ⌜ architecture .variables ≤ 8 ⌝ }
+    requires { ⌜ (owned ≡ outputsOf (processesIn architecture)) × (total ≡ composedStates (architecture .environment) (processesIn architecture)) ⌝ }
+    ensures { λ r. ⌜ r ≡ allFault (architectureOf architecture) ⌝ }
 {
-    if !all_set(owned, sheet.environment, sheet.variables) {
+    if !all_set(owned, architecture.environment, architecture.variables) {
         return true;
     }
     256 < total
@@ -105,21 +111,21 @@ pub fn au_fault(states: u8, initial: u8, rejecting: u16) -> bool
     is_beyond(rejecting, states)
 }
 
-pub fn ed_fault(variables: u8, states: u8, from: u8, to: u8, on: u8, off: u8) -> bool
+pub fn ed_fault(variables: u8, states: u8, edge: Edge) -> bool
     requires { ⌜ variables ≤ 8 ⌝ }
-    ensures { λ r. ⌜ r ≡ edFault variables states (record { from = from; to = to; on = on; off = off }) ⌝ }
+    ensures { λ r. ⌜ r ≡ edFault variables states (edgeOf edge) ⌝ }
 {
-    if states <= from {
+    if states <= edge.from {
         return true;
     }
-    if states <= to {
+    if states <= edge.to {
         return true;
     }
-    if is_beyond(on as u16, variables) {
+    if is_beyond(edge.on as u16, variables) {
         return true;
     }
-    if is_beyond(off as u16, variables) {
+    if is_beyond(edge.off as u16, variables) {
         return true;
     }
-    on & off != 0
+    edge.on & edge.off != 0
 }

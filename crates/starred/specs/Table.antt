@@ -8,9 +8,8 @@ use Rattle.model.specs.declared.Finding.the-variants.{Yes, No}
 use Rattle.model.specs.declared.Verdict.{Verdict}
 use Rattle.model.specs.declared.Reply.{Reply}
 use Rattle.model.specs.declared.Outcome.{Outcome}
-use Rattle.model.specs.RunGraph.{blank}
 use Rattle.model.specs.Calls.{AfterFind, checkOf, findOf, judgeOf, annotateOf}
-use Rattle.starred.specs.Sheets.{sheetA, sheetC, sheetE, edge}
+use Rattle.model.specs.BenchCases.{sheetA, sheetC, sheetE, edge, bookA, annotationA, bookD, bookE}
 
 -- a lent buffer of this length: it holds 7
 abbrev pub buffer : ℕ → List ℕ
@@ -45,24 +44,6 @@ none book annotation = record { answer = Outcome.Nothing; book = buffer book; an
 abbrev pub found : List ℕ → List ℕ → AfterFind
 found book annotation = record { answer = Outcome.Tables; book = book; annotation = annotation }
 
--- ---- the books and annotations of 01
-abbrev pub bookA : List ℕ
-bookA = 0x54 ∷ 0x42 ∷ 0x00 ∷ 0x00 ∷ 0x04 ∷ 0x01 ∷ 0x01 ∷ 0x01 ∷ 0x01 ∷ 0x54 ∷ 0x42 ∷ 0x00 ∷ 0x01 ∷ 0x08 ∷ 0x00 ∷ 0x00 ∷ 0x00 ∷ 0x00 ∷ 0x45 ∷ 0x4E ∷ []
-
--- 0 eight times; 2 four times, 1 four times; 1 four times, 2 four times; blank eight times
-abbrev pub annotationA : List ℕ
-annotationA = replicate 8 0 ++ replicate 4 2 ++ replicate 4 1 ++ replicate 4 1 ++ replicate 4 2 ++ replicate 8 blank
-
--- tables that alternate, process 0 granting in state 0 and process 1 in state 1
-abbrev pub bookD : List ℕ
-bookD =
-    0x54 ∷ 0x42 ∷ 0 ∷ 0 ∷ 4 ∷ 1 ∷ 1 ∷ 0x54 ∷ 0x42 ∷ 0 ∷ 1 ∷ 0 ∷ 0 ∷ 0
-    ∷ 0x54 ∷ 0x42 ∷ 1 ∷ 0 ∷ 0 ∷ 1 ∷ 1 ∷ 0x54 ∷ 0x42 ∷ 1 ∷ 1 ∷ 8 ∷ 0 ∷ 0 ∷ 0x45 ∷ 0x4E ∷ []
-
--- one row, mask 00, next 0
-abbrev pub bookE : List ℕ
-bookE = 0x54 ∷ 0x42 ∷ 0 ∷ 0 ∷ 0 ∷ 0 ∷ 0x45 ∷ 0x4E ∷ []
-
 -- ---- the table
 -- A: the arbiter. The buffers are longer by one than they need to be
 abbrev pub rowA : Row
@@ -82,16 +63,16 @@ starred =
     ∷ find (sheetC 1 2) 23 32 (none 23 32)
     -- D: bounds 2,2: no rejecting loop
     ∷ annotate (sheetC 2 2) bookD 64 (Verdict.Found Yes)
-    -- E: no variables, bound 1, one automaton state, no edges; annotation 0. The buffers are longer by one again
+    -- E: the least sheet that there is. The buffers are longer by one again
     ∷ find (sheetE 1 1 0 []) 9 2 (found (bookE ++ buffer 1) (0 ∷ buffer 1))
-    -- F: E with state 0 rejecting and an edge 0 to 0; so too for bound 4
+    -- F: the one state rejects and loops, also with 4 states of the process
     ∷ find (sheetE 1 1 1 (edge 0 0)) 8 1 (none 8 1)
     ∷ find (sheetE 4 1 1 (edge 0 0)) 26 4 (none 26 4)
     -- G: E with state 0 rejecting: annotation 0
     ∷ find (sheetE 1 1 1 []) 8 1 (found bookE (0 ∷ []))
     -- H: E with states 0, 1 and an edge 0 to 1. Only 0 rejecting: 0, 0 is valid
     ∷ judge (sheetE 1 2 1 (edge 0 1)) bookE (0 ∷ 0 ∷ []) (Verdict.Found Yes)
-    -- H, only 1 rejecting: 0, 0 is invalid; 0, 1 valid
+    -- H, where the state entered rejects: the number must rise
     ∷ judge (sheetE 1 2 2 (edge 0 1)) bookE (0 ∷ 0 ∷ []) (Verdict.Found No)
     ∷ judge (sheetE 1 2 2 (edge 0 1)) bookE (0 ∷ 1 ∷ []) (Verdict.Found Yes)
     -- I: an empty sheet; the byte 41 alone; A and one more byte

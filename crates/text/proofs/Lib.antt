@@ -1,6 +1,7 @@
 -- the laws that the proofs of the functions cite
-pub mod Bytes
+pub mod WholeText
 pub mod Numbers
 pub mod Rows
 pub mod Short
-pub mod Same
+pub mod TextReads
+pub mod CaseA

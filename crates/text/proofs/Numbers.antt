@@ -1,4 +1,4 @@
--- Laws of numbers in decimal, and of the greatest number. Assumes nothing.
+-- Laws of numbers in decimal, and of the greatest number.
 use mathlib.Core.Path.{_≡_, sym, ap, _∙_}
 use mathlib.Core.Bool.{Bool, true, false}
 use mathlib.Core.Logic.{_⊎_, inl, inr}

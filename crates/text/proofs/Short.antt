@@ -1,4 +1,4 @@
--- How long the text is at most. Assumes nothing.
+-- How long the text is at most.
 use mathlib.Core.Path.{_≡_, refl, ap, _∙_}
 use mathlib.Core.Bool.{true}
 use mathlib.Core.List.{List, [], _∷_, _++_, List·Memᴰ·head, List·Memᴰ·tail}
@@ -12,10 +12,9 @@ use borrow.Author.Tests.{ltb-true}
 use Rattle.theory.specs.Lists.{greatest}
 use Rattle.theory.proofs.Bools.{and-is}
 use Rattle.model.specs.Mask.{count}
-use Rattle.model.specs.Sheet.{Process, Sheet}
+use Rattle.model.specs.Sheet.{Process, Architecture, ProperProcess, ProperProcesses, ProperArchitecture}
 use Rattle.model.specs.Compose.{rowLength, rowAt, processLength}
 use Rattle.model.specs.Choice.{Entry, output, next, may, row, times, rows, entries, fits}
-use Rattle.model.proofs.ProperSheet.{GoodProcess, GoodProcesses, Good}
 use Rattle.model.proofs.FitsTest.{row-length}
 use Rattle.model.proofs.Compose.{times-length}
 use Rattle.text.specs.Text.{decimal, hex, line, field, fields, rowText, rowsText, tablesText, rowCount, unblank, textOf}
@@ -46,9 +45,9 @@ rows-length : (p : Process) → length (times (p .bound) (row p)) ≡ processLen
 unfolding processLength
 rows-length p = times-length (p .bound) (row p) ∙ ap (λ (n : ℕ). p .bound * n) (row-length p)
 
-module _ (variables : ℕ) where
+module _ {v e : ℕ} where
   -- a row has at most 39 bytes
-  row-short : (p : Process) (i x : ℕ) (c : List ℕ) → GoodProcess variables p → i < 10 → x < 10 → fits (row p) c ≡ true → length (rowText i x (take (rowLength p) c)) ≤ 39
+  row-short : (p : Process) (i x : ℕ) (c : List ℕ) → ProperProcess v e p → i < 10 → x < 10 → fits (row p) c ≡ true → length (rowText i x (take (rowLength p) c)) ≤ 39
   unfolding row fits rowLength rowText field hex
   row-short p i x [] g hi hx h = let z : _≡_ {A = ℕ} 0 1 = cc in absurd (omega arith)
   row-short p i x (v ∷ c) g hi hx h =
@@ -58,20 +57,23 @@ module _ (variables : ℕ) where
       rw (one-add k) (simp length-append (omega (arith, few, ap length (decimal-few i hi), ap length (decimal-few x hx), nexts-short k (p .bound) c (omega (arith, g .few-states)) rest)))
 
   -- so the rows of a process
-  rows-short : (i : ℕ) (p : Process) (at : ℕ) (c : List ℕ) (n x : ℕ) → GoodProcess variables p → i < 10 → x + n ≤ 10 → fits (times n (row p)) (drop (rowAt p at x) c) ≡ true → length (rowsText i p at c n x) ≤ 39 * n
+  rows-short : (i : ℕ) (p : Process) (at : ℕ) (c : List ℕ) (n x : ℕ) → ProperProcess v e p → i < 10 → x + n ≤ 10
+      → fits (times n (row p)) (drop (rowAt p at x) c) ≡ true → length (rowsText i p at c n x) ≤ 39 * n
   unfolding rowsText times
   rows-short i p at c zero x g hi hx h = omega arith
   rows-short i p at c (suc n) x g hi hx h =
       let parts = fits-parts (row p) (times n (row p)) (drop (rowAt p at x) c) h in
       let later : fits (times n (row p)) (drop (rowAt p at (suc x)) c) ≡ true = rw (row-next p at x, ← row-length p, ← drop-drop (length (row p)) (rowAt p at x) c) (parts .1) in
-      omega (arith, length-append (rowText i x (rowOf p at c x)) (rowsText i p at c n (suc x)), row-short p i x (drop (rowAt p at x) c) g hi (omega arith) (parts .0), rows-short i p at c n (suc x) g hi (omega arith) later)
+      let own = row-short p i x (drop (rowAt p at x) c) g hi (omega arith) (parts .0) in
+      omega (arith, length-append (rowText i x (rowOf p at c x)) (rowsText i p at c n (suc x)), own, rows-short i p at c n (suc x) g hi (omega arith) later)
 
   -- so the rows of all processes
-  tables-short : (i : ℕ) (ps : List Process) (at : ℕ) (c : List ℕ) → GoodProcesses variables ps → i + length ps ≤ 10 → fits (rows ps) (drop at c) ≡ true → length (tablesText i ps at c) ≤ 156 * length ps
+  tables-short : (i : ℕ) (ps : List Process) (at : ℕ) (c : List ℕ) → ProperProcesses v e ps → i + length ps ≤ 10
+      → fits (rows ps) (drop at c) ≡ true → length (tablesText i ps at c) ≤ 156 * length ps
   unfolding tablesText rows
   tables-short i [] at c g hi h = omega arith
   tables-short i (p ∷ ps) at c g hi h =
-      let own : GoodProcess variables p = g p (List·Memᴰ·head refl) in
+      let own : ProperProcess v e p = g p (List·Memᴰ·head refl) in
       let parts = fits-parts (times (p .bound) (row p)) (rows ps) (drop at c) h in
       let first : fits (times (p .bound) (row p)) (drop (rowAt p at 0) c) ≡ true = rw (row-first p at) (parts .0) in
       let later : fits (rows ps) (drop (at + processLength p) c) ≡ true = rw (drop-drop (length (times (p .bound) (row p))) at c, rows-length p) at (parts .1) in
@@ -83,21 +85,21 @@ module _ (variables : ℕ) where
         tables-short (suc i) ps (at + processLength p) c (λ q m. g q (List·Memᴰ·tail m)) (omega arith) later,
       )
 
-  count-few : (ps : List Process) → GoodProcesses variables ps → rowCount ps ≤ 4 * length ps
+  count-few : (ps : List Process) → ProperProcesses v e ps → rowCount ps ≤ 4 * length ps
   unfolding rowCount
   count-few [] g = omega arith
   count-few (p ∷ ps) g = omega (arith, g p (List·Memᴰ·head refl) .few-states, count-few ps (λ q m. g q (List·Memᴰ·tail m)))
 
 -- 649 bytes: `tables 16`, 16 rows and `greatest 65534`
-pub text-short : (s : Sheet) (c annotation : List ℕ) → Good s → fits (entries s) c ≡ true → greatest unblank annotation < 65536 → length (textOf s c annotation) ≤ 649
+pub text-short : (a : Architecture) (c annotation : List ℕ) → ProperArchitecture a → fits (entries a) c ≡ true → greatest unblank annotation < 65536 → length (textOf a c annotation) ≤ 649
 unfolding textOf entries line
-text-short s c annotation g h few =
-    let count = count-few (s .variables) (s .processes) (g .processes-good) in
+text-short a c annotation g h few =
+    let count = count-few (a .processes) (g .front .processes-proper) in
     simp length-append
     (omega (
       arith,
-      g .few-processes,
-      decimal-short 1 (rowCount (s .processes)) (omega (arith, count, g .few-processes)),
-      tables-short (s .variables) 0 (s .processes) 0 c (g .processes-good) (omega (arith, g .few-processes)) h,
+      g .front .few-processes,
+      decimal-short 1 (rowCount (a .processes)) (omega (arith, count, g .front .few-processes)),
+      tables-short 0 (a .processes) 0 c (g .front .processes-proper) (omega (arith, g .front .few-processes)) h,
       decimal-short 4 (greatest unblank annotation) (omega (arith, few)),
     ))

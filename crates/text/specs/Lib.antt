@@ -1,3 +1,2 @@
 pub mod Text
-pub mod CaseA
-pub mod Puts
+pub mod Holds

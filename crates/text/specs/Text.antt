@@ -5,7 +5,7 @@ use lib.Dec.{eqb, ltb}
 use lib.ListN.{getD, take, drop}
 use Rattle.theory.specs.Lists.{greatest}
 use Rattle.model.specs.Mask.{if}
-use Rattle.model.specs.Sheet.{Process, Sheet}
+use Rattle.model.specs.Sheet.{Process, Architecture}
 use Rattle.model.specs.Compose.{rowLength, processLength, rowAt}
 use Rattle.model.specs.RunGraph.{blank}
 
@@ -85,11 +85,11 @@ rowCount (p ∷ ps) = p .bound + rowCount ps
 unfoldable pub unblank : ℕ → ℕ
 unblank x = if (eqb x blank) 0 x
 
--- a found choice c of the sheet s with its annotation
-unfoldable pub textOf : Sheet → List ℕ → List ℕ → List ℕ
-textOf s c annotation =
-    line tablesWord (rowCount (s .processes))
-    ++ tablesText 0 (s .processes) 0 c
+-- a found choice c of the architecture a with its annotation
+unfoldable pub textOf : Architecture → List ℕ → List ℕ → List ℕ
+textOf a c annotation =
+    line tablesWord (rowCount (a .processes))
+    ++ tablesText 0 (a .processes) 0 c
     ++ line greatestWord (greatest unblank annotation)
 
 -- `none`

@@ -6,10 +6,11 @@ ghost use lib.ListN.{length, getD, take, drop};
 ghost use Rattle.theory.specs.Lists.{greatest as greatestOf};
 ghost use Rattle.model.specs.Choice.{IsChoice, entries as entriesOf};
 ghost use Rattle.model.specs.Numbers.{number};
-ghost use Rattle.composition.specs.Struct.{Sized, sheetWith, processIn, processesIn, firstIn, entriesOf as startOf};
+ghost use Rattle.architecture.specs.Struct.{IsProper, architectureOf, processIn, processesIn, firstIn, entriesOf as startOf};
+ghost use Rattle.append.specs.Appends.{Appends};
 ghost use Rattle.text.specs.Text as spec;
-ghost use Rattle.text.specs.Puts.{Puts, Holds};
-use composition::Architecture;
+ghost use Rattle.text.specs.Holds.{Holds};
+use architecture::Architecture;
 use model::ProcessState;
 use model::Refusal;
 
@@ -17,7 +18,7 @@ use model::Refusal;
 // One byte.
 fn put(text: &mut [u8], at: usize, byte: u8) -> usize
     requires { ⌜ at < length (now text) ⌝ }
-    ensures { λ r. ⌜ Puts (now (text .entry)) at (byte ∷ []) r (now (text .exit)) ⌝ }
+    ensures { λ r. ⌜ Appends (now (text .entry)) at (byte ∷ []) r (now (text .exit)) ⌝ }
 {
     text[at] = byte;
     at + 1
@@ -26,7 +27,7 @@ fn put(text: &mut [u8], at: usize, byte: u8) -> usize
 // All of these bytes.
 fn put_bytes(text: &mut [u8], at: usize, bytes: &[u8]) -> usize
     requires { ⌜ at + length (now bytes) ≤ length (now text) ⌝ }
-    ensures { λ r. ⌜ Puts (now (text .entry)) at (now (bytes .entry)) r (now (text .exit)) ⌝ }
+    ensures { λ r. ⌜ Appends (now (text .entry)) at (now (bytes .entry)) r (now (text .exit)) ⌝ }
 {
     let n = bytes.len();
     let mut k: usize = 0;
@@ -51,7 +52,7 @@ fn digit(d: u8) -> u8
 // A mask, in two hexadecimal digits.
 fn put_hex(text: &mut [u8], at: usize, mask: u8) -> usize
     requires { ⌜ at + 2 ≤ length (now text) ⌝ }
-    ensures { λ r. ⌜ Puts (now (text .entry)) at (spec.hex mask) r (now (text .exit)) ⌝ }
+    ensures { λ r. ⌜ Appends (now (text .entry)) at (spec.hex mask) r (now (text .exit)) ⌝ }
 {
     let next = put(text, at, digit(mask / 16));
     put(text, next, digit(mask % 16))
@@ -60,7 +61,7 @@ fn put_hex(text: &mut [u8], at: usize, mask: u8) -> usize
 // A number, in decimal.
 fn put_decimal(text: &mut [u8], at: usize, n: usize) -> usize
     requires { ⌜ at + length (spec.decimal n) ≤ length (now text) ⌝ }
-    ensures { λ r. ⌜ Puts (now (text .entry)) at (spec.decimal n) r (now (text .exit)) ⌝ }
+    ensures { λ r. ⌜ Appends (now (text .entry)) at (spec.decimal n) r (now (text .exit)) ⌝ }
 {
     if n < 10 {
         return put(text, at, digit(n as u8));
@@ -73,7 +74,7 @@ fn put_decimal(text: &mut [u8], at: usize, n: usize) -> usize
 // A word and a number.
 fn put_line(text: &mut [u8], at: usize, word: &[u8], n: usize) -> usize
     requires { ⌜ at + length (spec.line (now word) n) ≤ length (now text) ⌝ }
-    ensures { λ r. ⌜ Puts (now (text .entry)) at (spec.line (now (word .entry)) n) r (now (text .exit)) ⌝ }
+    ensures { λ r. ⌜ Appends (now (text .entry)) at (spec.line (now (word .entry)) n) r (now (text .exit)) ⌝ }
 {
     let after_word = put_bytes(text, at, word);
     let after_number = put_decimal(text, after_word, n);
@@ -83,7 +84,7 @@ fn put_line(text: &mut [u8], at: usize, word: &[u8], n: usize) -> usize
 // A space and a number.
 fn put_field(text: &mut [u8], at: usize, n: usize) -> usize
     requires { ⌜ at + length (spec.field n) ≤ length (now text) ⌝ }
-    ensures { λ r. ⌜ Puts (now (text .entry)) at (spec.field n) r (now (text .exit)) ⌝ }
+    ensures { λ r. ⌜ Appends (now (text .entry)) at (spec.field n) r (now (text .exit)) ⌝ }
 {
     let next = put(text, at, b' ');
     put_decimal(text, next, n)
@@ -92,7 +93,7 @@ fn put_field(text: &mut [u8], at: usize, n: usize) -> usize
 // The next states of a row, which stand behind its output mask.
 fn put_next(text: &mut [u8], start: usize, row: &[u8]) -> usize
     requires { ⌜ start + length (spec.fields (drop 1 (now row))) ≤ length (now text) ⌝ }
-    ensures { λ r. ⌜ Puts (now (text .entry)) start (spec.fields (drop 1 (now (row .entry)))) r (now (text .exit)) ⌝ }
+    ensures { λ r. ⌜ Appends (now (text .entry)) start (spec.fields (drop 1 (now (row .entry)))) r (now (text .exit)) ⌝ }
 {
     let mut at = start;
     let mut k: usize = 1;
@@ -106,7 +107,7 @@ fn put_next(text: &mut [u8], start: usize, row: &[u8]) -> usize
 // The front of a row: process, state and output mask.
 fn put_head(text: &mut [u8], at: usize, i: usize, x: usize, mask: u8) -> usize
     requires { ⌜ at + length (spec.decimal i ++ spec.field x ++ spec.space ++ spec.hex mask) ≤ length (now text) ⌝ }
-    ensures { λ r. ⌜ Puts (now (text .entry)) at (spec.decimal i ++ spec.field x ++ spec.space ++ spec.hex mask) r (now (text .exit)) ⌝ }
+    ensures { λ r. ⌜ Appends (now (text .entry)) at (spec.decimal i ++ spec.field x ++ spec.space ++ spec.hex mask) r (now (text .exit)) ⌝ }
 {
     let after_process = put_decimal(text, at, i);
     let after_state = put_field(text, after_process, x);
@@ -118,7 +119,7 @@ fn put_head(text: &mut [u8], at: usize, i: usize, x: usize, mask: u8) -> usize
 fn put_row(text: &mut [u8], at: usize, i: usize, x: usize, row: &[u8]) -> usize
     requires { ⌜ at + length (spec.rowText i x (now row)) ≤ length (now text) ⌝ }
     requires { ⌜ 0 < length (now row) ⌝ }
-    ensures { λ r. ⌜ Puts (now (text .entry)) at (spec.rowText i x (now (row .entry))) r (now (text .exit)) ⌝ }
+    ensures { λ r. ⌜ Appends (now (text .entry)) at (spec.rowText i x (now (row .entry))) r (now (text .exit)) ⌝ }
 {
     let after_head = put_head(text, at, i, x, row[0]);
     let after_next = put_next(text, after_head, row);
@@ -127,13 +128,13 @@ fn put_row(text: &mut [u8], at: usize, i: usize, x: usize, row: &[u8]) -> usize
 
 // All rows of process i.
 fn put_rows(text: &mut [u8], start: usize, a: Architecture, i: usize, tables: &[u8]) -> usize
-    requires { ⌜ Sized a ⌝ }
+    requires { ⌜ IsProper a ⌝ }
     requires { ⌜ i < a .processes ⌝ }
-    requires { ⌜ length (entriesOf (sheetWith a)) ≤ length (now tables) ⌝ }
+    requires { ⌜ length (entriesOf (architectureOf a)) ≤ length (now tables) ⌝ }
     requires { ⌜ start + length (spec.rowsText i (processIn a i) (startOf (firstIn a i)) (now tables) (getD (a .bounds) i 0) 0) ≤ length (now text) ⌝ }
-    ensures { λ r. ⌜ Puts (now (text .entry)) start (spec.rowsText i (processIn a i) (startOf (firstIn a i)) (now (tables .entry)) (getD (a .bounds) i 0) 0) r (now (text .exit)) ⌝ }
+    ensures { λ r. ⌜ Appends (now (text .entry)) start (spec.rowsText i (processIn a i) (startOf (firstIn a i)) (now (tables .entry)) (getD (a .bounds) i 0) 0) r (now (text .exit)) ⌝ }
 {
-    let row = composition::row_length(a.inputs_of(i));
+    let row = architecture::row_length(a.inputs_of(i));
     let bound = a.bound_of(i);
     let mut at = start;
     let mut x: usize = 0;
@@ -148,10 +149,10 @@ fn put_rows(text: &mut [u8], start: usize, a: Architecture, i: usize, tables: &[
 
 // The rows of all processes.
 fn put_tables(text: &mut [u8], start: usize, a: Architecture, tables: &[u8]) -> usize
-    requires { ⌜ Sized a ⌝ }
-    requires { ⌜ length (entriesOf (sheetWith a)) ≤ length (now tables) ⌝ }
+    requires { ⌜ IsProper a ⌝ }
+    requires { ⌜ length (entriesOf (architectureOf a)) ≤ length (now tables) ⌝ }
     requires { ⌜ start + length (spec.tablesText 0 (processesIn a) 0 (now tables)) ≤ length (now text) ⌝ }
-    ensures { λ r. ⌜ Puts (now (text .entry)) start (spec.tablesText 0 (processesIn a) 0 (now (tables .entry))) r (now (text .exit)) ⌝ }
+    ensures { λ r. ⌜ Appends (now (text .entry)) start (spec.tablesText 0 (processesIn a) 0 (now (tables .entry))) r (now (text .exit)) ⌝ }
 {
     let n = a.processes;
     let mut at = start;
@@ -166,7 +167,7 @@ fn put_tables(text: &mut [u8], start: usize, a: Architecture, tables: &[u8]) -> 
 // ---- the numbers of the first line and the last
 // How many rows the tables have.
 fn row_count(a: Architecture) -> usize
-    requires { ⌜ Sized a ⌝ }
+    requires { ⌜ IsProper a ⌝ }
     ensures { λ r. ⌜ r ≡ spec.rowCount (processesIn a) ⌝ }
 {
     let n = a.processes;
@@ -208,10 +209,10 @@ fn greatest(annotation: &[u16]) -> u16
 // ---- the text
 // The tables, between their count and the greatest number.
 fn put_text(text: &mut [u8], a: Architecture, tables: &[u8], annotation: &[u16]) -> usize
-    requires { ⌜ Sized a ⌝ }
-    requires { ⌜ length (entriesOf (sheetWith a)) ≤ length (now tables) ⌝ }
-    requires { ⌜ length (spec.textOf (sheetWith a) (now tables) (now annotation)) ≤ length (now text) ⌝ }
-    ensures { λ r. ⌜ Puts (now (text .entry)) 0 (spec.textOf (sheetWith a) (now (tables .entry)) (now (annotation .entry))) r (now (text .exit)) ⌝ }
+    requires { ⌜ IsProper a ⌝ }
+    requires { ⌜ length (entriesOf (architectureOf a)) ≤ length (now tables) ⌝ }
+    requires { ⌜ length (spec.textOf (architectureOf a) (now tables) (now annotation)) ≤ length (now text) ⌝ }
+    ensures { λ r. ⌜ Appends (now (text .entry)) 0 (spec.textOf (architectureOf a) (now (tables .entry)) (now (annotation .entry))) r (now (text .exit)) ⌝ }
 {
     let after_count = put_line(text, 0, b"tables ", row_count(a));
     let after_tables = put_tables(text, after_count, a, tables);
@@ -230,9 +231,9 @@ pub fn tables_text(
     tables: &[u8; 272],
     annotation: &[u16],
 ) -> usize
-    requires { ⌜ Sized a ⌝ }
-    requires { ⌜ IsChoice (sheetWith a) (take (length (entriesOf (sheetWith a))) (now tables)) ⌝ }
-    ensures { λ r. ⌜ Holds (now (text .exit)) r (spec.textOf (sheetWith a) (now (tables .entry)) (now (annotation .entry))) ⌝ }
+    requires { ⌜ IsProper a ⌝ }
+    requires { ⌜ IsChoice (architectureOf a) (take (length (entriesOf (architectureOf a))) (now tables)) ⌝ }
+    ensures { λ r. ⌜ Holds (now (text .exit)) r (spec.textOf (architectureOf a) (now (tables .entry)) (now (annotation .entry))) ⌝ }
 {
     put_text(text, a, tables, annotation)
 }

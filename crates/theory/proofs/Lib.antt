@@ -1,8 +1,8 @@
 pub mod Bools
 pub mod ListLaws
 pub mod Paths
-pub mod Overflow
-pub mod Closed
+pub mod RejectionBound
+pub mod ValidAnnotation
 pub mod Simulation
 pub mod AnnotationLaws
 pub mod ValidLaws

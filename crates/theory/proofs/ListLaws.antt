@@ -2,17 +2,19 @@
 use mathlib.Core.Path.{_≡_, refl, sym, ap, _∙_, subst}
 use mathlib.Core.Bool.{Bool, true, false, _&&_, _||_, or-true, true≢false}
 use mathlib.Core.Logic.{_⊎_, inl, inr, ⊎-elim, _↔_}
-use mathlib.Core.List.{List, [], _∷_, map, List·Memᴰ, List·Memᴰ·head, List·Memᴰ·tail, List·Memᴰ·not-nil, List·Memᴰ·cases-cons}
+use mathlib.Core.List.{List, [], _∷_, _++_, List·Memᴰ, List·Memᴰ·head, List·Memᴰ·tail, List·Memᴰ·not-nil, List·Memᴰ·cases-cons, List·Memᴰ·append-cases}
 use Prim.Native.Nat.{ℕ, zero, suc, _+_, _≤_, _<_, max}
+use native.Mathlib.Numerals.{add-one}
 use native.Mathlib.Omega.{arith}
 use native.Mathlib.Decide.{ℕ-discrete, decLe}
 use lib.Dec.{eqb}
-use lib.ListN.{length, getD}
+use lib.ListN.{length, getD, take, drop}
+use lib.Seq.{drop-cons, getD-take, length-take-le}
 use borrow.Author.Tests.{eqb-true, eq-eqb}
 use Rattle.theory.proofs.Bools.{and-is}
-use Rattle.theory.specs.Lists.{Distinct, none, one-more, below, one, put, filter, count, member, tab, greatest, all, same}
+use Rattle.theory.specs.Lists.{Distinct, none, one-more, Pairwise, empty, before, from, below, one, put, filter, count, member, tab, greatest, all}
 
-abbrev pub Subset : List ℕ → List ℕ → Type 0
+abbrev Subset : List ℕ → List ℕ → Type 0
 Subset xs ys = (x : ℕ) → List·Memᴰ x xs → List·Memᴰ x ys
 
 -- ys without the place where x stands
@@ -33,7 +35,7 @@ remove-keeps (List·Memᴰ·tail m) d (List·Memᴰ·head q) = List·Memᴰ·hea
 remove-keeps (List·Memᴰ·tail m) d (List·Memᴰ·tail i) = List·Memᴰ·tail (remove-keeps m d i)
 
 -- the pigeonhole principle
-pub pigeonhole : {xs : List ℕ} (ys : List ℕ) → Distinct xs → Subset xs ys → length xs ≤ length ys
+pigeonhole : {xs : List ℕ} (ys : List ℕ) → Distinct xs → Subset xs ys → length xs ≤ length ys
 pigeonhole ys none s = omega arith
 pigeonhole ys (one-more {x = x} {xs = xs} new d) s =
     let m : List·Memᴰ x ys = s x (List·Memᴰ·head refl) in
@@ -52,7 +54,7 @@ member? x (y ∷ ys) = by (ℕ-discrete x y) (member? x ys)
 pub distinct-tail : {x : ℕ} {xs : List ℕ} → Distinct (x ∷ xs) → Distinct xs
 distinct-tail (one-more new d) = d
 
-pub below-length : (n : ℕ) → length (below n) ≡ n
+below-length : (n : ℕ) → length (below n) ≡ n
 unfolding below
 below-length zero = refl
 below-length (suc n) = ap suc (below-length n)
@@ -65,6 +67,10 @@ below-has (suc n) x l = by (ℕ-discrete x n) (λ h. below-has n x h)
     by : Dec (x ≡ n) → (x < n → List·Memᴰ x (below n)) → List·Memᴰ x (n ∷ below n)
     by (yes e) ih = List·Memᴰ·head e
     by (no d) ih = List·Memᴰ·tail (ih (omega arith))
+
+-- distinct numbers below n are at most n
+pub distinct-short : {xs : List ℕ} (n : ℕ) → Distinct xs → ((x : ℕ) → List·Memᴰ x xs → x < n) → length xs ≤ n
+distinct-short n d h = omega (arith, below-length n, pigeonhole (below n) d (λ x m. below-has n x (h x m)))
 
 put-length : (b : Bool) (x : ℕ) (xs : List ℕ) → length (put b x xs) ≡ one b + length xs
 unfolding put one
@@ -89,6 +95,37 @@ pub count-le : (p : ℕ → Bool) (n : ℕ) → count p n ≤ n
 unfolding count
 count-le p zero = omega arith
 count-le p (suc n) = omega (arith, one-le (p n), count-le p n)
+
+pub one-true : (b : Bool) → one b ≡ 1 → b ≡ true
+unfolding one
+one-true true e = refl
+one-true false e = absurd (omega arith)
+
+pub one-false : (b : Bool) → ¬ (one b ≡ 1) → b ≡ false
+unfolding one
+one-false true ne = absurd (ne refl)
+one-false false ne = refl
+
+one-mono : (a b : Bool) → (a ≡ true → b ≡ true) → one a ≤ one b
+unfolding one
+one-mono true b h = rw (h refl) (omega arith)
+one-mono false b h = omega arith
+
+-- where p implies q, no more numbers pass p than q
+pub count-mono : (p q : ℕ → Bool) (n : ℕ) → ((v : ℕ) → p v ≡ true → q v ≡ true) → count p n ≤ count q n
+unfolding count
+count-mono p q zero h = omega arith
+count-mono p q (suc n) h = omega (arith, one-mono (p n) (q n) (h n), count-mono p q n h)
+
+-- and fewer, if some number passes q alone
+pub count-fewer : (p q : ℕ → Bool) (n v : ℕ) → ((v : ℕ) → p v ≡ true → q v ≡ true) → v < n → p v ≡ false → q v ≡ true → count p n < count q n
+unfolding count one
+count-fewer p q zero v h l e i = absurd (omega arith)
+count-fewer p q (suc n) v h l e i = by (ℕ-discrete v n) (λ m. count-fewer p q n v h m e i)
+  where
+    by : Dec (v ≡ n) → (v < n → count p n < count q n) → one (p n) + count p n < one (q n) + count q n
+    by (yes a) ih = rw (← a) (omega (arith, ap one e, ap one i, count-mono p q v h))
+    by (no a) ih = omega (arith, one-mono (p n) (q n) (h n), ih (omega arith))
 
 pub filter-sound : (p : ℕ → Bool) (x : ℕ) (xs : List ℕ) → List·Memᴰ x (filter p xs) → List·Memᴰ x xs × (p x ≡ true)
 unfolding filter
@@ -151,10 +188,11 @@ tab-from h (suc n) i (suc v) d l = tab-from h n (suc i) v d (omega arith) ∙ ap
 pub tab-at : (h : ℕ → ℕ) (n v d : ℕ) → v < n → getD (tab h n 0) v d ≡ h v
 tab-at h n v d l = tab-from h n 0 v d l ∙ ap h (omega arith)
 
-pub map-at : (h : ℕ → ℕ) (xs : List ℕ) (v d : ℕ) → getD (map h xs) v (h d) ≡ h (getD xs v d)
-map-at h [] v d = refl
-map-at h (x ∷ xs) zero d = refl
-map-at h (x ∷ xs) (suc v) d = map-at h xs v d
+-- an element of a list does not depend on the default
+pub any-default : (l : List ℕ) (i a b : ℕ) → i < length l → getD l i a ≡ getD l i b
+any-default [] i a b h = absurd (omega arith)
+any-default (x ∷ l) zero a b h = refl
+any-default (x ∷ l) (suc i) a b h = any-default l i a b (omega arith)
 
 pub max-cases : (a b c : ℕ) → max a b ≡ c → (a ≡ c) ⊎ (b ≡ c)
 max-cases a b c e = by (decLe a b)
@@ -188,12 +226,29 @@ all-is p (y ∷ ys) = by (all-is p ys)
       λ h. and-is (p y) (all p ys) .1 (h y (List·Memᴰ·head refl), ih .1 (λ x m. h x (List·Memᴰ·tail m))),
     )
 
-pub same-sound : (xs ys : List ℕ) → same xs ys ≡ true → xs ≡ ys
-unfolding same
-same-sound [] [] e = refl
-same-sound [] (y ∷ ys) e = absurd (true≢false (sym e))
-same-sound (x ∷ xs) [] e = absurd (true≢false (sym e))
-same-sound (x ∷ xs) (y ∷ ys) e = by (and-is (eqb x y) (same xs ys) .0 e) (λ i. same-sound xs ys i)
+-- ---- the numbers from i on
+pub from-has : (n i x : ℕ) → i ≤ x → x < i + n → List·Memᴰ x (from n i)
+unfolding from
+from-has zero i x l h = absurd (omega arith)
+from-has (suc n) i x l h = by (ℕ-discrete x i) (λ a b. from-has n (suc i) x a b)
   where
-    by : (eqb x y ≡ true) × (same xs ys ≡ true) → (same xs ys ≡ true → xs ≡ ys) → x ∷ xs ≡ y ∷ ys
-    by h ih = let p : x ≡ y = eqb-true x y (h .0) in let q : xs ≡ ys = ih (h .1) in cc
+    by : Dec (x ≡ i) → (suc i ≤ x → x < suc i + n → List·Memᴰ x (from n (suc i))) → List·Memᴰ x (i ∷ from n (suc i))
+    by (yes e) ih = List·Memᴰ·head e
+    by (no d) ih = List·Memᴰ·tail (ih (omega arith) (omega arith))
+
+pub from-least : (n i y : ℕ) → List·Memᴰ y (from n i) → i ≤ y
+unfolding from
+from-least zero i y m = absurd (List·Memᴰ·not-nil m)
+from-least (suc n) i y (List·Memᴰ·head e) = omega arith
+from-least (suc n) i y (List·Memᴰ·tail m) = omega (arith, from-least n (suc i) y m)
+
+-- ---- what holds between the elements of two lists, and between those of one and of the other
+pub pairwise-append : {A : Type 0} {R : A → A → Type 0} {xs ys : List A} → Pairwise R xs → Pairwise R ys → ((x y : A) → List·Memᴰ x xs → List·Memᴰ y ys → R x y) → Pairwise R (xs ++ ys)
+pairwise-append empty o h = o
+pairwise-append (before {x = x} {xs = xs} k p) o h =
+    before (λ y m. ⊎-elim (λ i. k y i) (λ i. h x y (List·Memᴰ·head refl) i) (List·Memᴰ·append-cases xs m)) (pairwise-append p o (λ u v i j. h u v (List·Memᴰ·tail i) j))
+
+-- ---- the first n elements, from j on and from j + 1 on
+pub taken-next : (xs : List ℕ) (n j : ℕ) → j < n → n ≤ length xs → drop j (take n xs) ≡ getD xs j 0 ∷ drop (j + 1) (take n xs)
+taken-next xs n j h l =
+    rw (add-one j) (drop-cons (take n xs) j 0 (omega (arith, length-take-le n xs l)) ∙ ap (λ (x : ℕ). x ∷ drop (suc j) (take n xs)) (getD-take n xs j 0 h))

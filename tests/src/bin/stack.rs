@@ -1,23 +1,20 @@
 //! How much stack find takes: a thread's stack is painted, find runs on it, and
 //! what is no longer painted was used.
 
-#[path = "../../tests/find_ffi/mod.rs"]
-mod find_ffi;
-
 use std::hint::black_box;
 use std::mem::MaybeUninit;
 use std::thread;
 
-use soclethyme_tests::bench::{case_a, case_c};
+use soclethyme_tests::bench_cases::{case_a, case_c};
 use soclethyme_tests::book::LONGEST_BOOK;
-use soclethyme_tests::large::{counters, opening, relay, three_clients};
-use soclethyme_tests::page::Page;
-use soclethyme_tests::sheet::{Sheet, MOST_COMPOSED, MOST_STATES};
+use soclethyme_tests::ffi;
+use soclethyme_tests::many_choices::{counters, opening, relay, three_clients};
+use soclethyme_tests::sheet::{Sheet, MOST_VERTICES};
 
 /// What is painted; the thread's stack is larger.
 const PAINTED: usize = 4 << 20;
 
-const PAGE: usize = 4096;
+const MEMORY_PAGE: usize = 4096;
 
 /// Pages that are passed over: the two frames need not lie at the same depth.
 const MARGIN: usize = 16;
@@ -41,20 +38,21 @@ fn used() -> usize {
     let byte = |at: usize| unsafe { first.add(at).read_volatile() };
     // A large frame writes a word to each page as it begins: this one did too.
     let is_painted = |page: &usize| {
-        let changed = (0..PAGE).filter(|at| byte(page * PAGE + at) != PAINT);
+        let changed = (0..MEMORY_PAGE).filter(|at| byte(page * MEMORY_PAGE + at) != PAINT);
         changed.count() <= 16
     };
-    let untouched = (MARGIN..PAINTED / PAGE).take_while(is_painted).count();
-    PAINTED - (MARGIN + untouched) * PAGE
+    let pages = MARGIN..PAINTED / MEMORY_PAGE;
+    let untouched = pages.take_while(is_painted).count();
+    PAINTED - (MARGIN + untouched) * MEMORY_PAGE
 }
 
 fn measure(name: &str, sheet: Sheet) {
-    let page = Page::new(sheet);
+    let sheet = sheet.bytes();
     let run = move || {
         let mut book = [0; LONGEST_BOOK];
-        let mut annotation = [0; MOST_COMPOSED * MOST_STATES];
+        let mut annotation = [0; MOST_VERTICES];
         paint();
-        let answer = find_ffi::find(&page.bytes, &mut book, &mut annotation);
+        let answer = ffi::find(&sheet, &mut book, &mut annotation);
         (answer, used())
     };
     let thread = thread::Builder::new().stack_size(STACK).spawn(run);

@@ -1,4 +1,4 @@
--- `book::nowhere` meets its contract. Assumes nothing.
+-- `book::nowhere` meets its contract: the part from 0 to 0 is what a refusal gives.
 use mathlib.Core.Path.{refl}
 use Rattle.model.specs.Calls.{cut}
 use Rattle.book.proofs.nowhere.Statement.{statement}

@@ -1,15 +1,18 @@
--- `book::range_for` meets its contract. Assumes nothing.
+-- `book::range_for` meets its contract: the process's number is tested first, and then reading the book decides.
 use mathlib.Core.Path.{_≡_, sym, ap, _∙_}
+use mathlib.Core.List.{List}
+use Prim.Native.Nat.{ℕ}
 use native.Mathlib.Numerals.{add-one}
 use borrow.Author.Tests.{le-leb, lt-leb}
 use borrow.Author.Needs.{needs}
-use Rattle.model.specs.Sheet.{Sheet, Reading, refused, proper, _then_}
+use Rattle.model.specs.Sheet.{Architecture}
+use Rattle.model.specs.Reading.{Reading, refused, proper, _then_}
 use Rattle.model.specs.Book.{readBook, partEnd}
-use Rattle.model.specs.Calls.{AfterRead, noProcess, cut}
-use Rattle.composition.specs.Struct.{sheetWith}
-use Rattle.sheet.proofs.Tests.{stop, go}
-use Rattle.book.specs.Answers.{partBy}
-use Rattle.book.proofs.Slots.{gave-refused, gave-done, count-is}
+use Rattle.model.specs.Calls.{AfterRead, noProcess, gave, cut, partFor}
+use Rattle.architecture.specs.Struct.{architectureOf}
+use Rattle.model.proofs.Refusing.{stop, go}
+use Rattle.architecture.proofs.Processes.{count-is}
+use Rattle.book.proofs.Answers.{gave-refused, gave-done}
 use Rattle.book.proofs.range_for.Statement.{statement}
 use Rattle.book.proofs.range_for.Tie as tie
 
@@ -17,10 +20,10 @@ nowhere-requires : tie.Need-nowhere-requires
 nowhere-requires c κs = search needs
 
 returns : tie.Need-returns
-unfolding partBy noProcess cut
+unfolding partFor noProcess cut
 returns c =
     let a = c .before .before .before .args in
-    c .nowhere .ensures ∙ sym (ap (λ (k : Reading Sheet). cut k (a .i)) (stop _ _ (le-leb _ _ (rw (← count-is (a .a)) at (c .before .if1 .taken)))))
+    c .nowhere .ensures ∙ sym (ap (λ (k : Reading Architecture). cut k (a .i)) (stop _ _ (le-leb _ _ (rw (← count-is (a .a)) at (c .before .if1 .taken)))))
 
 read-for-requires : tie.Need-read-for-requires
 read-for-requires c κs = search needs
@@ -44,28 +47,40 @@ part-start-requires-2 : tie.Need-part-start-requires-2
 part-start-requires-2 c κs = search needs
 
 -- there is such a process: the book decides
-known : (c : tie.Else1) → let a = c .before .before .args in partBy (sheetWith (a .a)) (a .book .now) (a .i) ≡ (readBook (sheetWith (a .a)) (a .book .now) then λ x. proper (sheetWith (a .a)))
-unfolding partBy noProcess
-known c = let a = c .before .before .args in go _ _ (lt-leb _ _ (rw (← count-is (a .a)) at (c .if1 .left)))
+module _ (c : tie.After-read-for) where
+  abbrev entry : tie.Start
+  entry = c .before .before .before
+
+  abbrev s : Architecture
+  s = architectureOf (entry .args .a)
+
+  abbrev reading : Reading (List ℕ)
+  reading = readBook s (entry .args .book .now)
+
+  known : partFor s (entry .args .book .now) (entry .args .i) ≡ (reading then λ x. proper s)
+  unfolding partFor noProcess
+  known = go _ _ (lt-leb _ _ (rw (← count-is (entry .args .a)) at (c .before .if1 .left)))
+
+  -- what reading answered
+  answered : gave reading .answer ≡ c .read-for .result .answer
+  answered = sym (ap (λ (x : AfterRead). x .answer) (c .read-for .ensures))
 
 returns-2 : tie.Need-returns-2
 unfolding cut _then_
 returns-2 c =
-    let a = c .before .before .before .before .before .before .before .args in
-    let book = readBook (sheetWith (a .a)) (a .book .now) in
+    let r = c .before .before .before .before in
     let refusal = c .before .before .answer .given .0 .0 in
-    let e : book ≡ refused refusal = gave-refused book refusal (sym (ap (λ (x : AfterRead). x .answer) (c .before .before .before .before .read-for .ensures)) ∙ c .before .before .answer .given .1) in
-    let s : partBy (sheetWith (a .a)) (a .book .now) (a .i) ≡ refused refusal = known (c .before .before .before .before .before) ∙ rw e in
-    rw s (c .nowhere2 .ensures)
+    let e : reading r ≡ refused refusal = gave-refused (reading r) refusal (answered r ∙ c .before .before .answer .given .1) in
+    let part : partFor (s r) (entry r .args .book .now) (entry r .args .i) ≡ refused refusal = known r ∙ rw e in
+    rw part (c .nowhere2 .ensures)
 
 returns-3 : tie.Need-returns-3
-unfolding cut _then_ partEnd sheetWith
+unfolding cut _then_ partEnd architectureOf
 returns-3 c =
-    let a = c .before .before .before .before .before .before .before .args in
-    let book = readBook (sheetWith (a .a)) (a .book .now) in
-    let e = gave-done book (sym (ap (λ (x : AfterRead). x .answer) (c .before .before .before .before .read-for .ensures)) ∙ c .before .before .enum-told .given .1) in
-    let s : partBy (sheetWith (a .a)) (a .book .now) (a .i) ≡ proper (sheetWith (a .a)) = known (c .before .before .before .before .before) ∙ rw (e .1) in
-    rw (s, c .before .part-start .ensures, c .part-start2 .ensures, add-one (a .i))
+    let r = c .before .before .before .before in
+    let e = gave-done (reading r) (answered r ∙ c .before .before .enum-told .given .1) in
+    let part : partFor (s r) (entry r .args .book .now) (entry r .args .i) ≡ proper (s r) = known r ∙ rw (e .1) in
+    rw (part, c .before .part-start .ensures, c .part-start2 .ensures, add-one (entry r .args .i))
 
 pub range-for-spec : {M : Type 1} → statement M
 range-for-spec =

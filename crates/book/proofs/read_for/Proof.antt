@@ -1,20 +1,21 @@
--- `book::read_for` meets its contract. Each return goes by the tests that led there. Assumes nothing.
+-- `book::read_for` meets its contract: the test of the book's bytes comes first, and `fitting` has that of the entries.
 use mathlib.Core.Path.{_≡_, sym, ap, _∙_}
 use mathlib.Core.Bool.{not}
 use mathlib.Core.List.{List}
-use Prim.Native.Nat.{_≤_}
+use Prim.Native.Nat.{ℕ}
 use native.Mathlib.Omega.{arith}
 use lib.ListN.{length}
 use borrow.Author.Tests.{not-false}
 use borrow.Author.Needs.{needs}
+use Rattle.model.specs.Sheet.{Architecture}
 use Rattle.model.specs.Choice.{entries}
 use Rattle.model.specs.Book.{Slot, form, bookLength, wellFormed, entriesIn, bookFault, readBook}
 use Rattle.model.specs.Calls.{tablesOf, gave}
-use Rattle.model.proofs.BookInverse.{holes, holes-form}
-use Rattle.composition.specs.Struct.{sheetWith}
-use Rattle.composition.proofs.Structs.{entries-are, start-few}
-use Rattle.sheet.proofs.Tests.{stop, go}
-use Rattle.book.proofs.Slots.{right-length, entries-length, fitting-is}
+use Rattle.model.proofs.BookInverse.{holes-form}
+use Rattle.architecture.specs.Struct.{architectureOf}
+use Rattle.model.proofs.Refusing.{stop, go}
+use Rattle.book.proofs.Slots.{right-length, entries-length, form-holes}
+use Rattle.book.proofs.Answers.{fitting-is}
 use Rattle.book.proofs.read_for.Statement.{statement}
 use Rattle.book.proofs.read_for.Tie as tie
 
@@ -33,10 +34,25 @@ is-malformed-requires c κs = search needs
 unread-requires : tie.Need-unread-requires
 unread-requires c κs = search needs
 
--- 10, as the code tests it
-malformed : (c : tie.After-is-malformed) → c .is-malformed .result ≡ bookFault (sheetWith (c .before .before .before .before .before .before .args .a)) (c .before .before .before .before .before .before .args .book .now)
-unfolding bookFault
-malformed c = c .is-malformed .ensures ∙ ap (λ (ps : List Slot). not (wellFormed ps (c .before .before .before .before .before .before .args .book .now))) (c .before .before .before .fill-slots .ensures .1)
+-- the book was tested
+module _ (c : tie.After-is-malformed) where
+  -- the slots were filled
+  abbrev filled : tie.After-fill-slots
+  filled = c .before .before .before
+
+  abbrev entry : tie.Start
+  entry = filled .before .before .before
+
+  abbrev s : Architecture
+  s = architectureOf (entry .args .a)
+
+  abbrev book : List ℕ
+  book = entry .args .book .now
+
+  -- 10, as the code tests it
+  malformed : c .is-malformed .result ≡ bookFault s book
+  unfolding bookFault
+  malformed = c .is-malformed .ensures ∙ ap (λ (ps : List Slot). not (wellFormed ps book)) (filled .fill-slots .ensures .1)
 
 returns : tie.Need-returns
 unfolding readBook
@@ -49,20 +65,18 @@ slice-aggregate-take-entries-2 : tie.Need-slice-aggregate-take-entries-2
 slice-aggregate-take-entries-2 c = search needs
 
 -- the book is as long as it must be
-long : (c : tie.Else1) → length (c .before .before .before .before .before .before .before .args .book .now) ≡ length (form (sheetWith (c .before .before .before .before .before .before .before .args .a)))
+long : (c : tie.Else1) → length (book (c .before)) ≡ length (form (s (c .before)))
 unfolding bookFault
-long c = right-length (form (sheetWith (c .before .before .before .before .before .before .before .args .a))) (c .before .before .before .before .before .before .before .args .book .now) (not-false _ (sym (malformed (c .before)) ∙ c .if1 .left))
-
--- the entries fit into tables
-few : (c : tie.Start) → length (entries (sheetWith (c .args .a))) ≤ 272
-few c = let z = c .pre in omega (arith, entries-are (c .args .a), start-few (c .args .a) z (c .args .a .processes) (omega arith), z .few-processes)
+long c = right-length (form (s (c .before))) (book (c .before)) (not-false _ (sym (malformed (c .before)) ∙ c .if1 .left))
 
 take-entries-requires : tie.Need-take-entries-requires
 unfolding bookLength
 take-entries-requires c κs =
-    let n = c .before .before .before .before .before .before .fill-slots in (
+    let t = c .before .before .before in
+    let n = filled t .fill-slots in
+    let start = entry t in (
       (omega (arith, n .kept .0, n .ensures .0 .1), omega (arith, n .ensures .0 .0, long (c .before .before))),
-      omega (arith, ap holes (n .ensures .1), holes-form (sheetWith (c .before .before .before .before .before .before .before .before .before .args .a)), few (c .before .before .before .before .before .before .before .before .before)),
+      omega (arith, form-holes (start .args .a) (start .pre) _ (n .ensures .1)),
     )
 
 fitting-requires : tie.Need-fitting-requires
@@ -71,12 +85,15 @@ fitting-requires c κs = search needs
 returns-2 : tie.Need-returns-2
 unfolding readBook tablesOf
 returns-2 c =
-    let a = c .before .before .before .before .before .before .before .before .before .before .before .before .args in
-    let s = sheetWith (a .a) in
-    let entries-of = entriesIn (form s) (a .book .now) in
-    let tables-are : c .before .before .take-entries .last .0 ≡ tablesOf entries-of = c .before .before .take-entries .ensures ∙ ap (λ (ps : List Slot). tablesOf (entriesIn ps (a .book .now))) (c .before .before .before .before .before .before .before .before .before .fill-slots .ensures .1) in
-    let as-many : length entries-of ≡ length (entries s) = entries-length (form s) (a .book .now) (omega (arith, long (c .before .before .before .before .before))) ∙ holes-form s in
-    c .fitting .ensures ∙ rw tables-are (fitting-is s entries-of (omega (arith, as-many))) ∙ ap gave (sym (go _ _ (sym (malformed (c .before .before .before .before .before .before)) ∙ c .before .before .before .before .before .if1 .left)))
+    let taken = c .before .before .take-entries in
+    let formed = c .before .before .before .before .before in
+    let t = formed .before in
+    let read = entriesIn (form (s t)) (book t) in
+    let tables-are : taken .last .0 ≡ tablesOf read = taken .ensures ∙ ap (λ (ps : List Slot). tablesOf (entriesIn ps (book t))) (filled t .fill-slots .ensures .1) in
+    let as-many : length read ≡ length (entries (s t)) = entries-length (form (s t)) (book t) (omega (arith, long formed)) ∙ holes-form (s t) in
+    c .fitting .ensures
+    ∙ rw tables-are (fitting-is (s t) read (omega (arith, as-many)))
+    ∙ ap gave (sym (go _ _ (sym (malformed t) ∙ formed .if1 .left)))
 
 pub read-for-spec : {M : Type 1} → statement M
 read-for-spec =

@@ -1,4 +1,4 @@
--- `book::unread` meets its contract. Assumes nothing.
+-- `book::unread` meets its contract: zeros are the tables that a refusal gives.
 use mathlib.Core.Path.{refl}
 use Rattle.model.specs.Calls.{front, tablesOf, gave}
 use Rattle.book.proofs.unread.Statement.{statement}

@@ -1,4 +1,4 @@
--- `draw::draw_arrow` is safe and ends: the places that are left fall. Assumes nothing.
+-- `draw::draw_arrow` is safe and ends: the indexes that are left fall.
 use Prim.Native.Nat.{_-_}
 use native.Mathlib.Omega.{arith}
 use lib.ListN.{length}
@@ -7,10 +7,10 @@ use Rattle.draw.proofs.draw_arrow.Statement.{statement}
 use Rattle.draw.proofs.draw_arrow.Tie as tie
 
 abbrev Inv-loop : tie.InvT-loop
-Inv-loop x y next is-first₀ place₀ is-first place = Unit {0}
+Inv-loop x y next is-first₀ index₀ is-first index = Unit {0}
 
 abbrev μ-loop : tie.MeasureT-loop
-μ-loop x y next is-first₀ place₀ is-first place = length next - place
+μ-loop x y next is-first₀ index₀ is-first index = length next - index
 
 loop-holds : tie.Need-loop-holds Inv-loop μ-loop
 loop-holds c = search needs
@@ -19,13 +19,13 @@ shared-slice-read-if1 : tie.Need-shared-slice-read-if1 Inv-loop μ-loop
 shared-slice-read-if1 c = search needs
 
 cast-if1 : tie.Need-cast-if1 Inv-loop μ-loop
-cast-if1 c = omega (arith, c .shared-slice-known2 .given (c .before .before .loop .place))
+cast-if1 c = omega (arith, c .shared-slice-known2 .given (c .before .before .loop .index))
 
-print-place-requires : tie.Need-print-place-requires Inv-loop μ-loop
-print-place-requires c κs = search needs
+print-index-requires : tie.Need-print-index-requires Inv-loop μ-loop
+print-index-requires c κs = search needs
 
-add-place : tie.Need-add-place Inv-loop μ-loop
-add-place c = search needs
+add-index : tie.Need-add-index Inv-loop μ-loop
+add-index c = search needs
 
 loop-less : tie.Need-loop-less Inv-loop μ-loop
 loop-less c = search needs
@@ -51,8 +51,8 @@ draw-arrow-spec =
     loop-holds
     shared-slice-read-if1
     cast-if1
-    print-place-requires
-    add-place
+    print-index-requires
+    add-index
     loop-less
     loop-again
     close-arrow-requires

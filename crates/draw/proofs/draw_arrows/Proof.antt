@@ -1,4 +1,4 @@
--- `draw::draw_arrows` is safe and ends: the states that are left fall. Assumes nothing.
+-- `draw::draw_arrows` is safe and ends: the states that are left fall.
 use Prim.Native.Nat.{_-_}
 use borrow.Author.Needs.{needs}
 use Rattle.draw.proofs.draw_arrows.Statement.{statement}

@@ -1,19 +1,16 @@
--- `draw::draw_book` is safe: the architecture of a proper sheet is in order. Assumes nothing.
+-- `draw::draw_book` is safe: the architecture of a proper sheet is in order.
 use borrow.Author.Needs.{needs}
-use Rattle.composition.specs.Struct.{Sized}
-use Rattle.composition.proofs.Sheets.{sized}
+use Rattle.architecture.specs.Struct.{IsProper}
+use Rattle.sheet.proofs.Sheets.{architecture-proper}
 use Rattle.draw.proofs.draw_book.Statement.{statement}
 use Rattle.draw.proofs.draw_book.Tie as tie
 
-of-requires : tie.Need-of-requires
-of-requires c κs = search needs
-
 -- the architecture of a proper sheet
-whole : (c : tie.After-of) → Sized (c .of .result)
-whole c = sized _ _ (c .of .ensures) (c .before .before .pre .0)
+whole : (b : tie.Start) → IsProper (b .args .sheet .architecture)
+whole b = architecture-proper (b .args .sheet) (b .pre)
 
 read-for-requires : tie.Need-read-for-requires
-read-for-requires c κs = whole c
+read-for-requires c κs = whole (c .before .before .before)
 
 enum-known-answer : tie.Need-enum-known-answer
 enum-known-answer c = search needs
@@ -28,7 +25,7 @@ draw-automaton-requires : tie.Need-draw-automaton-requires
 draw-automaton-requires c κs = search needs
 
 draw-tables-requires : tie.Need-draw-tables-requires
-draw-tables-requires c κs = whole (c .before .before .before .before .before .before)
+draw-tables-requires c κs = whole (c .before .before .before .before .before .before .before .before .before)
 
 returns : tie.Need-returns
 returns c = search needs
@@ -40,7 +37,6 @@ pub draw-book-spec : {M : Type 1} → statement M
 draw-book-spec =
     tie.close
     (tie.spec
-    of-requires
     read-for-requires
     enum-known-answer
     print-refused-requires

@@ -1,4 +1,4 @@
--- `draw::draw_rows` is safe and ends: each row lies within the tables, and the states that are left fall. Assumes nothing.
+-- `draw::draw_rows` is safe and ends: each row lies within the tables, and the states that are left fall.
 use mathlib.Core.List.{List}
 use mathlib.Core.Path.{_≡_}
 use Prim.Native.Nat.{ℕ, _+_, _-_, _<_, _≤_}
@@ -6,16 +6,16 @@ use native.Mathlib.Omega.{arith}
 use lib.ListN.{length, getD, length-take, length-drop}
 use borrow.Author.Needs.{needs}
 use Rattle.model.specs.Compose.{rowAt}
-use Rattle.composition.specs.declared.Architecture.{Architecture}
-use Rattle.composition.specs.Struct.{Sized, processIn, firstIn, entriesOf}
-use Rattle.composition.proofs.Structs.{row-is, row-pos}
+use Rattle.architecture.specs.declared.Architecture.{Architecture}
+use Rattle.architecture.specs.Struct.{IsProper, processIn, firstIn, entriesOf}
+use Rattle.architecture.proofs.Processes.{facts, row-is, row-pos}
 use Rattle.text.proofs.Rows.{row-within}
 use Rattle.draw.proofs.draw_rows.Statement.{statement}
 use Rattle.draw.proofs.draw_rows.Tie as tie
 
 -- what the loop asks of the rows of process i
 record Rows (a : Architecture) (i : ℕ) (tables : List ℕ) (row bound : ℕ) : Type 0 where
-  sized : Sized a
+  sized : IsProper a
   counts : i < a .processes
   all : bound ≡ getD (a .bounds) i 0
   few : bound ≤ 4
@@ -48,7 +48,7 @@ loop-holds c =
       sized = s .pre .0;
       counts = counts;
       all = c .bound-of .ensures;
-      few = omega (arith, c .bound-of .ensures, s .pre .0 .few-states i counts);
+      few = omega (arith, c .bound-of .ensures, facts (s .pre .0) .few-states i counts);
       some = omega (arith, e, row-pos (processIn a i));
       within = λ x h. omega (arith, e, row-within a i x counts (omega (arith, c .bound-of .ensures)), s .pre .1 .1);
     }

@@ -1,7 +1,6 @@
--- `draw::draw_sheet` is safe: a sheet that is read without a refusal is in order. Assumes nothing.
+-- `draw::draw_sheet` is safe: a sheet that is read without a refusal is in order.
 use borrow.Author.Needs.{needs}
-use Rattle.model.proofs.ProperSheet.{sheet-good}
-use Rattle.sheet.proofs.Sheets.{read-proper}
+use Rattle.sheet.proofs.Sheets.{read-is-proper}
 use Rattle.draw.proofs.draw_sheet.Statement.{statement}
 use Rattle.draw.proofs.draw_sheet.Tie as tie
 
@@ -20,7 +19,7 @@ enum-told c = search needs
 draw-proper-requires : tie.Need-draw-proper-requires
 draw-proper-requires c κs =
     let r = c .before .before .before .read in
-    (sheet-good _ _ (read-proper _ _ _ (r .ensures .0) (c .before .enum-told .given .1)), r .ensures .1)
+    read-is-proper _ (r .result) (r .ensures .0) (r .ensures .1) (c .before .enum-told .given .1)
 
 returns : tie.Need-returns
 returns c = search needs

@@ -1,15 +1,15 @@
--- `draw::draw_tables` is safe and ends: the processes that are left fall. Assumes nothing.
+-- `draw::draw_tables` is safe and ends: the processes that are left fall.
 use mathlib.Core.Path.{_≡_}
 use Prim.Native.Nat.{_-_}
 use native.Mathlib.Omega.{arith}
 use borrow.Author.Needs.{needs}
-use Rattle.composition.specs.Struct.{Sized}
-use Rattle.composition.proofs.Structs.{entries-are, start-few}
+use Rattle.architecture.specs.Struct.{IsProper}
+use Rattle.architecture.proofs.Processes.{facts, entries-are, start-few}
 use Rattle.draw.proofs.draw_tables.Statement.{statement}
 use Rattle.draw.proofs.draw_tables.Tie as tie
 
 abbrev Inv-loop : tie.InvT-loop
-Inv-loop a tables n i₀ i = Sized a × (n ≡ a .processes)
+Inv-loop a tables n i₀ i = IsProper a × (n ≡ a .processes)
 
 abbrev μ-loop : tie.MeasureT-loop
 μ-loop a tables n i₀ i = n - i
@@ -21,7 +21,7 @@ draw-table-requires : tie.Need-draw-table-requires Inv-loop μ-loop
 draw-table-requires c κs =
     let a = c .before .before .before .args .a in
     let l = c .before .before .loop .inv in
-    (l .0, (omega arith, omega (arith, entries-are a, start-few a (l .0) (a .processes) (omega arith), l .0 .few-processes)))
+    (l .0, (omega arith, omega (arith, entries-are a, start-few a (l .0) (a .processes) (omega arith), facts (l .0) .few-processes)))
 
 add-i : tie.Need-add-i Inv-loop μ-loop
 add-i c = search needs

@@ -1,4 +1,4 @@
--- `draw::print_variables` is safe and ends: the variables that are left fall. Assumes nothing.
+-- `draw::print_variables` is safe and ends: the variables that are left fall.
 use Prim.Native.Nat.{_-_}
 use borrow.Author.Needs.{needs}
 use Rattle.draw.proofs.print_variables.Statement.{statement}

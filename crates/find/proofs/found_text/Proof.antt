@@ -1,6 +1,6 @@
--- `find::found_text` meets its contract: find read a proper sheet. Assumes nothing.
+-- `find::found_text` meets its contract: find read a proper sheet.
 use borrow.Author.Needs.{needs}
-use Rattle.model.proofs.ProperSheet.{sheet-good}
+use Rattle.model.proofs.ProperSheet.{sheet-proper}
 use Rattle.sheet.specs.Struct.{sheetOf}
 use Rattle.find.specs.Printed.{sheetText, printed, book₀, annotation₀}
 use Rattle.find.proofs.Found.{Proper, found-proper}
@@ -17,7 +17,7 @@ sheet c = let a = c .before .before .before .before .args in found-proper (a .sh
 choice-text-requires : tie.Need-choice-text-requires
 choice-text-requires c κs =
     let s = sheet (c .before .before) in
-    (sheet-good _ _ (s .is), (c .before .before .read .ensures .1, s .finds))
+    (record { arrays = c .before .before .read .ensures .1; proper = sheet-proper _ _ (s .is) }, s .finds)
 
 returns : tie.Need-returns
 unfolding printed sheetText

@@ -1,20 +1,17 @@
 -- `judging::annotate_for` meets its contract: the book is read, and then annotated. Assumes nothing.
 use mathlib.Core.Path.{refl}
 use borrow.Author.Needs.{needs}
-use Rattle.model.specs.Sheet.{_then_}
-use Rattle.model.specs.Calls.{annotated}
+use Rattle.model.specs.Reading.{_then_}
+use Rattle.model.specs.Calls.{annotated, bookFor}
 use Rattle.sheet.specs.Struct.{sheetOf}
-use Rattle.composition.proofs.Sheets.{sized}
-use Rattle.judging.specs.Room.{bookFor}
+use Rattle.architecture.specs.Struct.{architectureOf}
+use Rattle.sheet.proofs.Sheets.{architecture-proper}
 use Rattle.judging.proofs.Read.{Chose, was-refused, was-read}
 use Rattle.judging.proofs.annotate_for.Statement.{statement}
 use Rattle.judging.proofs.annotate_for.Tie as tie
 
-of-requires : tie.Need-of-requires
-of-requires c κs = search needs
-
 read-for-requires : tie.Need-read-for-requires
-read-for-requires c κs = sized _ _ (c .of .ensures) (c .before .before .before .pre .0)
+read-for-requires c κs = architecture-proper _ (c .before .before .before .pre)
 
 enum-known-answer : tie.Need-enum-known-answer
 enum-known-answer c = search needs
@@ -26,16 +23,17 @@ slice-aggregate-annotate-tables : tie.Need-slice-aggregate-annotate-tables
 slice-aggregate-annotate-tables c = search needs
 
 -- the choice of the book
-choice : (c : tie.After-enum-told) → let a = c .before .before .before .before .before .before .args in Chose (sheetOf (a .sheet)) (a .book .now) (c .before .before .read-for .result .tables)
-choice c = was-read (c .before .before .before .of .ensures) _ (c .before .before .read-for .result) (c .before .before .read-for .ensures) (c .enum-told .given .1)
+choice : (c : tie.After-enum-told) → let a = c .before .before .before .before .before .before .args in Chose (architectureOf (a .sheet .architecture)) (a .book .now) (c .before .before .read-for .result .tables)
+choice c = was-read _ _ (c .before .before .read-for .result) (c .before .before .read-for .ensures) (c .enum-told .given .1)
 
 annotate-tables-requires : tie.Need-annotate-tables-requires
-annotate-tables-requires c κs = (c .before .before .before .before .before .before .before .before .before .pre .0, (c .before .before .before .before .before .before .before .before .before .pre .1, choice (c .before .before .before) .is-choice))
+annotate-tables-requires c κs = (c .before .before .before .before .before .before .before .before .before .pre, choice (c .before .before .before) .is-choice)
 
 returns : tie.Need-returns
 unfolding bookFor _then_ annotated
 returns c =
-    rw (was-refused (c .before .before .before .before .of .ensures) (c .before .before .before .before .before .before .before .args .book .now) (c .before .before .before .read-for .result) (c .before .before .before .read-for .ensures) (c .before .answer .given .1)) (refl, refl)
+    let a = c .before .before .before .before .before .before .before .args in
+    rw (was-refused (architectureOf (a .sheet .architecture)) (a .book .now) (c .before .before .before .read-for .result) (c .before .before .before .read-for .ensures) (c .before .answer .given .1)) (refl, refl)
 
 same-length : tie.Need-same-length
 same-length c = search needs
@@ -48,7 +46,6 @@ pub annotate-for-spec : {M : Type 1} → statement M
 annotate-for-spec =
     tie.close
     (tie.spec
-    of-requires
     read-for-requires
     enum-known-answer
     enum-told

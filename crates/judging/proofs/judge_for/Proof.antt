@@ -1,19 +1,16 @@
 -- `judging::judge_for` meets its contract: the book is read, and then the annotation judged. Assumes nothing.
 use borrow.Author.Needs.{needs}
-use Rattle.model.specs.Sheet.{_then_}
-use Rattle.model.specs.Calls.{judged}
+use Rattle.model.specs.Reading.{_then_}
+use Rattle.model.specs.Calls.{judged, bookFor}
 use Rattle.sheet.specs.Struct.{sheetOf}
-use Rattle.composition.proofs.Sheets.{sized}
-use Rattle.judging.specs.Room.{bookFor}
+use Rattle.architecture.specs.Struct.{architectureOf}
+use Rattle.sheet.proofs.Sheets.{architecture-proper}
 use Rattle.judging.proofs.Read.{Chose, was-refused, was-read}
 use Rattle.judging.proofs.judge_for.Statement.{statement}
 use Rattle.judging.proofs.judge_for.Tie as tie
 
-of-requires : tie.Need-of-requires
-of-requires c κs = search needs
-
 read-for-requires : tie.Need-read-for-requires
-read-for-requires c κs = sized _ _ (c .of .ensures) (c .before .before .before .pre .0)
+read-for-requires c κs = architecture-proper _ (c .before .before .before .pre)
 
 enum-known-answer : tie.Need-enum-known-answer
 enum-known-answer c = search needs
@@ -25,16 +22,17 @@ slice-aggregate-judge-tables : tie.Need-slice-aggregate-judge-tables
 slice-aggregate-judge-tables c = search needs
 
 -- the choice of the book
-choice : (c : tie.After-enum-told) → let a = c .before .before .before .before .before .before .args in Chose (sheetOf (a .sheet)) (a .book .now) (c .before .before .read-for .result .tables)
-choice c = was-read (c .before .before .before .of .ensures) _ (c .before .before .read-for .result) (c .before .before .read-for .ensures) (c .enum-told .given .1)
+choice : (c : tie.After-enum-told) → let a = c .before .before .before .before .before .before .args in Chose (architectureOf (a .sheet .architecture)) (a .book .now) (c .before .before .read-for .result .tables)
+choice c = was-read _ _ (c .before .before .read-for .result) (c .before .before .read-for .ensures) (c .enum-told .given .1)
 
 judge-tables-requires : tie.Need-judge-tables-requires
-judge-tables-requires c κs = (c .before .before .before .before .before .before .before .before .pre .0, (c .before .before .before .before .before .before .before .before .pre .1, choice (c .before .before) .is-choice))
+judge-tables-requires c κs = (c .before .before .before .before .before .before .before .before .pre, choice (c .before .before) .is-choice)
 
 returns : tie.Need-returns
 unfolding bookFor _then_ judged
 returns c =
-    rw (was-refused (c .before .before .before .before .of .ensures) (c .before .before .before .before .before .before .before .args .book .now) (c .before .before .before .read-for .result) (c .before .before .before .read-for .ensures) (c .before .answer .given .1))
+    let a = c .before .before .before .before .before .before .before .args in
+    rw (was-refused (architectureOf (a .sheet .architecture)) (a .book .now) (c .before .before .before .read-for .result) (c .before .before .before .read-for .ensures) (c .before .answer .given .1))
 
 returns-2 : tie.Need-returns-2
 unfolding bookFor _then_
@@ -44,7 +42,6 @@ pub judge-for-spec : {M : Type 1} → statement M
 judge-for-spec =
     tie.close
     (tie.spec
-    of-requires
     read-for-requires
     enum-known-answer
     enum-told

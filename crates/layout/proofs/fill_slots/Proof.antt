@@ -1,75 +1,67 @@
--- `layout::fill_slots` meets its contract. The invariant: what was put, with the records of the processes still due behind it, is all. Assumes nothing.
-use mathlib.Core.Path.{_≡_, ap, _∙_}
-use mathlib.Core.List.{List, [], _∷_, _++_, map}
-use Prim.Native.Nat.{ℕ, _+_, _-_, _≤_}
-use native.Mathlib.Nat.{add-assoc}
+-- `layout::fill_slots` meets its contract. The invariant: what was written, the records of the processes from i on, and EN are all.
+use mathlib.Core.Path.{ap, _∙_}
+use mathlib.Core.List.{[], _∷_, map}
+use Prim.Native.Nat.{suc, _+_, _-_, _≤_}
 use native.Mathlib.Omega.{arith}
-use lib.ListN.{length, length-set, set, take, drop}
+use lib.ListN.{length, length-map}
 use borrow.Author.Needs.{needs}
-use Rattle.model.specs.Sheet.{Process}
-use Rattle.model.specs.Book.{Slot, due, allRecords, form, bookLength}
-use Rattle.composition.specs.declared.Architecture.{Architecture}
-use Rattle.composition.specs.Struct.{processesIn, processIn, sheetWith}
-use Rattle.composition.proofs.Laws.{good}
-use Rattle.composition.proofs.Structs.{process-next, processes-end}
-use Rattle.layout.specs.Codes.{slotOf, slotCode}
-use Rattle.layout.proofs.Words.{put-one, put-more, Filling, filling-none, filling-more, slots-turn, slots-back, bytes-form, put-length}
+use Rattle.model.specs.Book.{form, bookLength}
+use Rattle.architecture.specs.Struct.{architectureOf}
+use Rattle.append.specs.Appends.{Appends}
+use Rattle.append.proofs.Appended.{append-more, append-length}
+use Rattle.append.proofs.Appending.{Appending, Opens, appending-none, appending-next, appending-room, appending-all}
+use Rattle.layout.specs.Slots.{slotOf, slotCode, processCodes}
+use Rattle.layout.proofs.FormWords.{slots-back, bytes-form, formFrom, form-open, form-closing, form-short}
 use Rattle.layout.proofs.fill_slots.Statement.{statement}
 use Rattle.layout.proofs.fill_slots.Tie as tie
 
--- the bytes behind the records
-abbrev end : List Slot
-end = due 0x45 ∷ due 0x4E ∷ []
-
-abbrev still-due : Architecture → ℕ → List ℕ
-still-due a i = map slotCode (allRecords i (drop i (processesIn a)) ++ end)
-
 abbrev Inv-loop : tie.InvT-loop
-Inv-loop slots₀ a n at₀ i₀ slots at i = Filling 84 n (still-due a) slots₀ slots at i
+Inv-loop slots₀ a n at₀ i₀ slots at i = (i ≤ n) × Appending slots₀ 0 (map slotCode (form (architectureOf a))) at slots (formFrom a i)
 
 abbrev μ-loop : tie.MeasureT-loop
 μ-loop slots₀ a n at₀ i₀ slots at i = n - i
 
+-- back into the loop
+abbrev turn : tie.After-slice-known2 Inv-loop μ-loop → tie.In-loop Inv-loop μ-loop
+turn c = c .before .before .before .before
+
 loop-holds : tie.Need-loop-holds Inv-loop μ-loop
-loop-holds c = filling-none
+unfolding form architectureOf
+loop-holds c = (omega arith, appending-none _ _ _)
+
+module _ (c : tie.At-loop Inv-loop μ-loop) where
+  -- the entry of the function
+  abbrev entry : tie.Start Inv-loop μ-loop
+  entry = c .before .before
+
+  -- there is room for all words
+  room : 0 + length (map slotCode (form (architectureOf (entry .args .a)))) ≤ length (entry .args .slots .now)
+  room = omega (arith, form-short (entry .args .a) (entry .pre .0), entry .pre .1)
+
+-- the records of process i are due next
+next : (c : tie.In-loop Inv-loop μ-loop) → let a = entry (c .before) .args .a in let i = c .before .loop .i in Opens (formFrom a i) (processCodes a i) (formFrom a (i + 1))
+next c = form-open (entry (c .before) .args .a) (c .before .loop .i) (c .loop-test .taken)
 
 put-records-requires : tie.Need-put-records-requires Inv-loop μ-loop
-put-records-requires c κs =
-    let l = c .before .before .loop in
-    let p = c .before .before .before .before .pre in
-    (p .0, (c .before .loop-test .taken, omega (arith, l .inv .few, l .inv .same-length, p .1, c .before .loop-test .taken, p .0 .few-processes)))
+put-records-requires c κs = let l = c .before .before in (entry l .pre .0, (c .before .loop-test .taken, appending-room (l .loop .inv .1) (room l) (next (c .before))))
 
 add-i : tie.Need-add-i Inv-loop μ-loop
-add-i c = omega (arith, c .before .before .before .before .loop-test .taken, c .before .before .before .before .before .before .before .pre .0 .few-processes)
+add-i c = omega (arith, turn c .loop-test .taken, entry (turn c .before) .pre .0 .arrays .few-processes)
 
 loop-less : tie.Need-loop-less Inv-loop μ-loop
-loop-less c = omega (arith, c .before .before .before .before .loop-test .taken)
+loop-less c = omega (arith, turn c .loop-test .taken)
 
 loop-again : tie.Need-loop-again Inv-loop μ-loop
-loop-again c =
-    let l = c .before .before .before .before .before .loop in
-    let a = c .before .before .before .before .before .before .before .args .a in
-    let h = c .before .before .before .before .loop-test .taken in
-    let put = c .before .before .put-records in
-    filling-more (l .inv) h (put .ensures .1) (omega (arith, put .ensures .0 .1)) (put .kept .0)
-    (ap (λ (qs : List Process). map slotCode (allRecords (l .i) qs ++ end)) (process-next (a .inputs) (a .outputs) (a .bounds) (a .processes) (l .i) h) ∙ slots-turn (l .i) (processIn a (l .i)) (drop (l .i + 1) (processesIn a)) end)
+loop-again c = (omega (arith, turn c .loop-test .taken), appending-next (turn c .before .loop .inv .1) (next (turn c)) (c .before .before .put-records .ensures))
 
--- there is room for the end
-room : (c : tie.After-loop Inv-loop μ-loop) → (c .before .loop .at + 2 ≤ 338) × (c .before .loop .at + 2 ≤ length (c .before .loop .slots))
-room c =
-    let l = c .before .loop in
-    let p = c .before .before .before .pre in
-    let few : l .at + 2 ≤ 338 = omega (arith, l .inv .few, l .inv .inside, p .0 .few-processes) in
-    (few, omega (arith, few, l .inv .same-length, p .1))
+-- behind the loop EN is due
+module _ (c : tie.After-loop Inv-loop μ-loop) where
+  due-last : Opens (formFrom (entry (c .before) .args .a) (c .before .loop .i)) (suc 0x45 ∷ suc 0x4E ∷ []) []
+  unfolding slotCode
+  due-last = record { is = form-closing (entry (c .before) .args .a) (c .before .loop .i) (omega (arith, c .loop-test .left, c .before .loop .inv .0)) }
 
--- all records were put, and the end is still due
-all : (c : tie.After-loop Inv-loop μ-loop) → take (c .before .loop .at) (c .before .loop .slots) ++ map slotCode end ≡ map slotCode (allRecords 0 (processesIn (c .before .before .before .args .a)) ++ end)
-unfolding allRecords
-all c =
-    let l = c .before .loop in
-    let a = c .before .before .before .args .a in
-    let e : l .i ≡ a .processes = omega (arith, c .loop-test .left, l .inv .inside) in
-    rw (processes-end (a .inputs) (a .outputs) (a .bounds) (a .processes)) at (rw e at (l .inv .rest))
+  room-last : c .before .loop .at + 2 ≤ length (c .before .loop .slots)
+  room-last = appending-room (c .before .loop .inv .1) (room (c .before)) due-last
 
 array-read-due : tie.Need-array-read-due Inv-loop μ-loop
 array-read-due c = search needs
@@ -77,11 +69,8 @@ array-read-due c = search needs
 due-requires : tie.Need-due-requires Inv-loop μ-loop
 due-requires c κs = search needs
 
-mul-slots : tie.Need-mul-slots Inv-loop μ-loop
-mul-slots c = omega (arith, room (c .before) .0)
-
-slice-write-slots : tie.Need-slice-write-slots Inv-loop μ-loop
-slice-write-slots c = omega (arith, room (c .before) .1)
+word-requires : tie.Need-word-requires Inv-loop μ-loop
+word-requires c κs = omega (arith, room-last (c .before .before))
 
 array-read-due-2 : tie.Need-array-read-due-2 Inv-loop μ-loop
 array-read-due-2 c = search needs
@@ -89,38 +78,39 @@ array-read-due-2 c = search needs
 due-requires-2 : tie.Need-due-requires-2 Inv-loop μ-loop
 due-requires-2 c κs = search needs
 
-add-slots : tie.Need-add-slots Inv-loop μ-loop
-add-slots c = omega (arith, room (c .before .before) .0)
+word-requires-2 : tie.Need-word-requires-2 Inv-loop μ-loop
+word-requires-2 c κs =
+    let first = c .before .before .before .before in
+    omega (arith, room-last (first .before .before .before), first .word .ensures .ends, first .word .kept .0)
 
-mul-slots-2 : tie.Need-mul-slots-2 Inv-loop μ-loop
-mul-slots-2 c = omega (arith, room (c .before .before) .0)
+module _ (c : tie.After-slice-known4 Inv-loop μ-loop) where
+  -- the first word of EN, and the last turn of the loop
+  abbrev first : tie.After-word Inv-loop μ-loop
+  first = c .before .before .before .before .before .before .before
 
-slice-write-slots-2 : tie.Need-slice-write-slots-2 Inv-loop μ-loop
-slice-write-slots-2 c = simp length-set (omega (arith, room (c .before .before) .1))
+  abbrev ended : tie.After-loop Inv-loop μ-loop
+  ended = first .before .before .before
 
-add-result : tie.Need-add-result Inv-loop μ-loop
-add-result c = omega (arith, room (c .before .before) .0)
+  abbrev start : tie.Start Inv-loop μ-loop
+  start = entry (ended .before)
 
--- so was the end
-whole : (c : tie.After-due2 Inv-loop μ-loop) → let l = c .before .before .before .loop in
-    take (l .at + 2) (set (set (l .slots) (l .at) (c .before .due .result)) (l .at + 1) (c .due2 .result)) ≡ map slotCode (form (sheetWith (c .before .before .before .before .before .args .a)))
-unfolding form sheetWith slotCode
-whole c =
-    let l = c .before .before .before .loop in
-    let r = room (c .before .before) in
-    let two = put-more (put-one (l .slots) (l .at) (c .before .due .result) (omega (arith, r .1))) (put-one (set (l .slots) (l .at) (c .before .due .result)) (l .at + 1) (c .due2 .result) (simp length-set (omega (arith, r .1)))) in
-    rw (add-assoc (l .at) 1 1) at (two .is) ∙ rw (c .before .due .ensures, c .due2 .ensures) (all (c .before .before))
+  -- all words were written
+  whole : Appends (start .args .slots .now) 0 (map slotCode (form (architectureOf (start .args .a)))) (c .before .before .word2 .result) (c .before .before .word2 .last .0)
+  whole =
+      let last = c .before .before in
+      let two = append-more (first .word .ensures) (last .word2 .ensures) in
+      appending-all (appending-next (ended .before .loop .inv .1) (due-last ended) (rw (← first .before .due .ensures, ← last .before .due2 .ensures) two))
 
 same-length : tie.Need-same-length Inv-loop μ-loop
-same-length c = simp length-set (c .before .before .before .loop .inv .same-length)
+same-length c = append-length (whole c) (omega (arith, whole c .ends, room (ended c .before)))
 
 returns : tie.Need-returns Inv-loop μ-loop
 unfolding bookLength
 returns c =
-    let l = c .before .before .before .loop in
-    let r = room (c .before .before) in (
-      (put-length slotCode (form (sheetWith (c .before .before .before .before .before .args .a))) _ (l .at + 2) (simp length-set (omega (arith, r .1))) (whole c), r .0),
-      ap (map slotOf) (whole c) ∙ slots-back (form (sheetWith (c .before .before .before .before .before .args .a))) (bytes-form (sheetWith (c .before .before .before .before .before .args .a)) (good (c .before .before .before .before .before .args .a) (c .before .before .before .before .before .pre .0))),
+    let a = start c .args .a in
+    let z = start c .pre .0 in (
+      (omega (arith, whole c .ends, length-map (form (architectureOf a)) slotCode), omega (arith, whole c .ends, form-short a z)),
+      ap (map slotOf) (whole c .is) ∙ slots-back (form (architectureOf a)) (bytes-form (architectureOf a) (z .proper)),
     )
 
 pub fill-slots-spec : {M : Type 1} → statement M
@@ -136,13 +126,9 @@ fill-slots-spec =
     loop-again
     array-read-due
     due-requires
-    mul-slots
-    slice-write-slots
+    word-requires
     array-read-due-2
     due-requires-2
-    add-slots
-    mul-slots-2
-    slice-write-slots-2
-    add-result
+    word-requires-2
     same-length
     returns)

@@ -1,26 +1,33 @@
--- `layout::put_records` meets its contract. The invariant: what was put, with the records still due behind it, is all. Assumes nothing.
-use mathlib.Core.Path.{_≡_, refl, sym, ap, ap₂, _∙_}
-use mathlib.Core.List.{List, _++_, map, append-nil}
-use Prim.Native.Nat.{ℕ, _+_, _-_, _*_, _≤_}
-use native.Mathlib.Nat.{mul-le-mul}
+-- `layout::put_records` meets its contract. The invariant: what was written and the records of the states from x on are all.
+-- A record depends on the process by the length of its rows alone, so the loop says this of every process whose rows have that length.
+use mathlib.Core.Path.{_≡_}
+use mathlib.Core.List.{map}
+use Prim.Native.Nat.{ℕ, _+_, _-_, _<_, _≤_}
 use native.Mathlib.Omega.{arith}
-use lib.ListN.{length, take}
+use lib.ListN.{length-replicate}
 use borrow.Author.Needs.{needs}
 use Rattle.model.specs.Sheet.{Process}
 use Rattle.model.specs.Compose.{rowLength}
-use Rattle.model.specs.Book.{records, recordsLength}
-use Rattle.composition.specs.Struct.{processIn}
-use Rattle.composition.proofs.Structs.{row-few}
-use Rattle.layout.specs.Codes.{slotCode}
-use Rattle.layout.proofs.Words.{put-turn, records-turn, turn-fits, one-turn}
+use Rattle.model.specs.Book.{records}
+use Rattle.architecture.specs.Struct.{processIn}
+use Rattle.architecture.proofs.Processes.{facts, row-is}
+use Rattle.append.proofs.Appending.{Appending, Opens, appending-none, appending-next, appending-length, appending-room, appending-all}
+use Rattle.layout.specs.Slots.{slotCode, recordCodes, processCodes}
+use Rattle.layout.proofs.FormWords.{records-open}
 use Rattle.layout.proofs.put_records.Statement.{statement}
 use Rattle.layout.proofs.put_records.Tie as tie
 
 abbrev Inv-loop : tie.InvT-loop
-Inv-loop slots₀ start i row bound at₀ x₀ slots at x = (x ≤ bound) × ((at ≡ start + x * (4 + row)) × ((length slots ≡ length slots₀) × ((p : Process) → rowLength p ≡ row → take at slots ++ map slotCode (records i p (bound - x) x) ≡ take start slots₀ ++ map slotCode (records i p bound 0))))
+Inv-loop slots₀ start i row bound at₀ x₀ slots at x =
+    (p : Process) → row ≡ rowLength p → bound ≡ p .bound
+    → Appending slots₀ start (map slotCode (records i p (p .bound) 0)) at slots (map slotCode (records i p (p .bound - x) x))
 
 abbrev μ-loop : tie.MeasureT-loop
 μ-loop slots₀ start i row bound at₀ x₀ slots at x = bound - x
+
+-- back into the loop
+abbrev turn : tie.After-slice-known2 Inv-loop μ-loop → tie.In-loop Inv-loop μ-loop
+turn c = c .before .before .before .before
 
 inputs-of-requires : tie.Need-inputs-of-requires Inv-loop μ-loop
 inputs-of-requires c κs = (c .before .pre .0, c .before .pre .1 .0)
@@ -31,86 +38,65 @@ row-length-requires c κs = search needs
 bound-of-requires : tie.Need-bound-of-requires Inv-loop μ-loop
 bound-of-requires c κs = (c .before .before .before .pre .0, c .before .before .before .pre .1 .0)
 
--- the row and the bound are those of process i
-row-is : (c : tie.After-bound-of Inv-loop μ-loop) → c .before .row-length .result ≡ rowLength (processIn (c .before .before .before .before .args .a) (c .before .before .before .before .args .i))
-unfolding rowLength
-row-is c = c .before .row-length .ensures ∙ rw (c .before .before .inputs-of .ensures)
-
--- few records, and short ones
-few : (c : tie.After-bound-of Inv-loop μ-loop) → (c .before .row-length .result ≤ 17) × (c .bound-of .result ≤ 4)
-few c =
-    let a = c .before .before .before .before .args .a in
-    let z = c .before .before .before .before .pre .0 in
-    let h = c .before .before .before .before .pre .1 .0 in
-    (omega (arith, row-is c, row-few (processIn a (c .before .before .before .before .args .i)) (z .few-inputs (c .before .before .before .before .args .i) h)), omega (arith, c .bound-of .ensures, z .few-states (c .before .before .before .before .args .i) h))
-
 loop-holds : tie.Need-loop-holds Inv-loop μ-loop
-loop-holds c = (omega arith, (omega arith, (refl, λ p e. let z : c .bound-of .result - 0 ≡ c .bound-of .result = omega arith in rw z)))
+loop-holds c p er eb = let z : p .bound - 0 ≡ p .bound = omega arith in rw z (appending-none _ _ _)
 
--- one more record fits
-room : (c : tie.In-loop Inv-loop μ-loop) → c .before .loop .at + (4 + c .before .before .before .row-length .result) ≤ c .before .before .before .before .before .before .args .start + 84
-room c =
-    let n = few (c .before .before) in
-    let l = c .before .loop in
-    omega (arith, l .inv .1 .0, turn-fits (l .x) (c .before .before .bound-of .result) (4 + c .before .before .before .row-length .result) 4 21 (c .loop-test .taken) (n .1) (omega (arith, n .0)))
+module _ (c : tie.At-loop Inv-loop μ-loop) where
+  -- the entry of the function
+  abbrev entry : tie.Start Inv-loop μ-loop
+  entry = c .before .before .before .before .before
+
+  -- process i
+  abbrev p : Process
+  p = processIn (entry .args .a) (entry .args .i)
+
+  row-known : c .before .before .row-length .result ≡ rowLength p
+  row-known =
+      let a = entry .args .a in
+      row-is (a .inputs) (a .outputs) (a .bounds) (entry .args .i) _ _ (c .before .before .before .inputs-of .ensures) (c .before .before .row-length .ensures)
+
+  few : p .bound ≤ 4
+  few = facts (entry .pre .0) .few-states (entry .args .i) (entry .pre .1 .0)
+
+  so-far : Appending (entry .args .slots .now) (entry .args .start) (processCodes (entry .args .a) (entry .args .i)) (c .loop .at) (c .loop .slots)
+      (map slotCode (records (entry .args .i) p (p .bound - c .loop .x) (c .loop .x)))
+  so-far = c .loop .inv p row-known (c .before .bound-of .ensures)
+
+-- the record of state x is due next
+module _ (c : tie.In-loop Inv-loop μ-loop) (q : Process) (er : c .before .before .before .row-length .result ≡ rowLength q) (eb : c .before .before .bound-of .result ≡ q .bound) where
+  inside : c .before .loop .x < q .bound
+  inside = omega (arith, c .loop-test .taken, eb)
+
+  next : let i = entry (c .before) .args .i in let x = c .before .loop .x in
+      Opens (map slotCode (records i q (q .bound - x) x)) (recordCodes i x (c .before .before .before .row-length .result)) (map slotCode (records i q (q .bound - (x + 1)) (x + 1)))
+  next = records-open (entry (c .before) .args .i) q (q .bound) (c .before .loop .x) _ er inside
 
 put-record-requires : tie.Need-put-record-requires Inv-loop μ-loop
 put-record-requires c κs =
-    let p = c .before .before .before .before .before .before .before .pre in
-    (omega (arith, room (c .before), c .before .before .loop .inv .1 .1 .0, p .1 .1), (omega (arith, p .1 .0, p .0 .few-processes), omega (arith, c .before .loop-test .taken, few (c .before .before .before) .1)))
-
-add-at : tie.Need-add-at Inv-loop μ-loop
-add-at c = omega (arith, few (c .before .before .before .before .before .before) .0)
-
-add-at-2 : tie.Need-add-at-2 Inv-loop μ-loop
-add-at-2 c = omega (arith, room (c .before .before .before .before), c .before .before .before .before .before .before .before .before .before .before .pre .1 .1, c .before .before .before .before .before .before .before .before .before .before .good)
+    let l = c .before .before in
+    let room = appending-room (so-far l) (entry l .pre .1 .1) (next (c .before) (p l) (row-known l) (l .before .bound-of .ensures)) in (
+      omega (arith, room, length-replicate {A = ℕ} (l .before .before .row-length .result) 0),
+      (omega (arith, entry l .pre .1 .0, entry l .pre .0 .arrays .few-processes), omega (arith, inside (c .before) (p l) (row-known l) (l .before .bound-of .ensures), few l)),
+    )
 
 add-x : tie.Need-add-x Inv-loop μ-loop
-add-x c = omega (arith, few (c .before .before .before .before .before .before) .1, c .before .before .before .before .loop-test .taken)
+add-x c = omega (arith, turn c .loop-test .taken, turn c .before .before .bound-of .ok)
 
 loop-less : tie.Need-loop-less Inv-loop μ-loop
-loop-less c = omega (arith, c .before .before .before .before .loop-test .taken)
+loop-less c = omega (arith, turn c .loop-test .taken)
 
 loop-again : tie.Need-loop-again Inv-loop μ-loop
-loop-again c =
-    let l = c .before .before .before .before .before .loop in
-    let a = c .before .before .before .before .before .before .before .before .before .before .args in
-    let row = c .before .before .before .before .before .before .before .row-length .result in
-    let bound = c .before .before .before .before .before .before .bound-of .result in (
-      omega (arith, c .before .before .before .before .loop-test .taken),
-      (
-        ap (λ (n : ℕ). n + (4 + row)) (l .inv .1 .0) ∙ one-turn (a .start) (l .x) (4 + row),
-        (
-          c .before .before .put-record .kept .0 ∙ l .inv .1 .1 .0,
-          λ p e.
-              put-turn (map slotCode (records (a .i) p (bound - (l .x + 1)) (l .x + 1))) (c .before .before .put-record .ensures)
-              ∙ ap (λ (xs : List ℕ). take (l .at) (l .slots) ++ xs) (sym (rw e at (records-turn (a .i) p bound (l .x) (c .before .before .before .before .loop-test .taken))))
-              ∙ l .inv .1 .1 .1 p e,
-        ),
-      ),
-    )
+loop-again c q er eb = appending-next (turn c .before .loop .inv q er eb) (next (turn c) q er eb) (c .before .before .put-record .ensures)
 
 same-length : tie.Need-same-length Inv-loop μ-loop
-same-length c = c .before .loop .inv .1 .1 .0
+same-length c = appending-length (so-far (c .before)) (entry (c .before) .pre .1 .1)
 
 returns : tie.Need-returns Inv-loop μ-loop
-unfolding records recordsLength
+unfolding records
 returns c =
-    let l = c .before .loop in
-    let a = c .before .before .before .before .before .before .args in
-    let p = processIn (a .a) (a .i) in
-    let bound = c .before .before .bound-of .result in
-    let row = c .before .before .before .row-length .result in
-    let x-is : l .x ≡ bound = omega (arith, c .loop-test .left, l .inv .0) in
-    let none : bound - l .x ≡ 0 = omega arith in
-    let size : l .x * (4 + row) ≡ recordsLength p = ap₂ (λ (m n : ℕ). m * (4 + n)) (x-is ∙ c .before .before .bound-of .ensures) (row-is (c .before .before)) in
-    let n = few (c .before .before) in (
-      (
-        l .inv .1 .0 ∙ ap (λ (m : ℕ). a .start + m) size,
-        omega (arith, l .inv .1 .0, mul-le-mul {n₁ = l .x} {m₁ = 4 + row} {n₂ = 4} {m₂ = 21} (omega (arith, n .1)) (omega (arith, n .0))),
-      ),
-      record { is = sym (append-nil (take (l .at) (l .slots))) ∙ rw (c .before .before .bound-of .ensures) at (rw none at (l .inv .1 .1 .1 p (sym (row-is (c .before .before))))) },
-    )
+    let l = c .before in
+    let none : p l .bound - l .loop .x ≡ 0 = omega (arith, c .loop-test .left, l .before .bound-of .ensures) in
+    appending-all (rw none at (so-far l))
 
 pub put-records-spec : {M : Type 1} → statement M
 put-records-spec =
@@ -123,8 +109,6 @@ put-records-spec =
     bound-of-requires
     loop-holds
     put-record-requires
-    add-at
-    add-at-2
     add-x
     loop-less
     loop-again

@@ -1,10 +1,9 @@
--- `planner::annotate` meets its contract: the sheet is read, and then the book annotated. Assumes nothing.
+-- `planner::annotate` meets its contract: the sheet is read, and then the book annotated.
 use mathlib.Core.Path.{refl}
 use borrow.Author.Needs.{needs}
-use Rattle.model.specs.Sheet.{_then_}
+use Rattle.model.specs.Reading.{_then_}
 use Rattle.model.specs.Calls.{bookAndRoom, annotated, annotateOf}
-use Rattle.judging.proofs.Read.{book-by}
-use Rattle.planner.proofs.Sheets.{refusal-is, sheet-is, good-is}
+use Rattle.planner.proofs.Sheets.{refusal-is, sheet-is, proper-is}
 use Rattle.planner.proofs.annotate.Statement.{statement}
 use Rattle.planner.proofs.annotate.Tie as tie
 
@@ -21,7 +20,7 @@ annotate-for-requires : tie.Need-annotate-for-requires
 annotate-for-requires c κs =
     let a = c .before .before .before .before .before .before .before .before .args in
     let r = c .before .before .before .before .read in
-    (good-is (a .sheet .now) (r .result) (r .ensures .0) (c .before .before .enum-told .given .1), r .ensures .1)
+    proper-is (a .sheet .now) (r .result) (r .ensures .0) (c .before .before .enum-told .given .1) (r .ensures .1)
 
 returns : tie.Need-returns
 unfolding annotateOf bookAndRoom _then_ annotated
@@ -35,11 +34,11 @@ same-length : tie.Need-same-length
 same-length c = search needs
 
 returns-2 : tie.Need-returns-2
-unfolding annotateOf
+unfolding annotateOf bookAndRoom _then_
 returns-2 c =
     let a = c .before .before .before .before .before .before .before .before .before .before .before .args in
     let r = c .before .before .before .before .before .before .before .read in
-    rw (book-by (a .sheet .now) (a .book .now) (a .annotation .now) _ (sheet-is (a .sheet .now) (r .result) (r .ensures .0) (c .before .before .before .before .before .enum-told .given .1))) (c .before .before .annotate-for .ensures .0, c .before .before .annotate-for .ensures .1)
+    rw (sheet-is (a .sheet .now) (r .result) (r .ensures .0) (c .before .before .before .before .before .enum-told .given .1)) (c .before .before .annotate-for .ensures .0, c .before .before .annotate-for .ensures .1)
 
 pub annotate-spec : {M : Type 1} → statement M
 annotate-spec =

@@ -1,10 +1,9 @@
--- `planner::find` meets its contract: the sheet is read, and then the first tables are found. Assumes nothing.
+-- `planner::find` meets its contract: the sheet is read, and then the first tables are found.
 use mathlib.Core.Path.{refl}
 use borrow.Author.Needs.{needs}
-use Rattle.model.specs.Sheet.{_then_}
+use Rattle.model.specs.Reading.{_then_}
 use Rattle.model.specs.Calls.{findSheet, findIn, findOf}
-use Rattle.synthesis.proofs.Room.{find-by}
-use Rattle.planner.proofs.Sheets.{refusal-is, sheet-is, good-is}
+use Rattle.planner.proofs.Sheets.{refusal-is, sheet-is, proper-is}
 use Rattle.planner.proofs.find.Statement.{statement}
 use Rattle.planner.proofs.find.Tie as tie
 
@@ -21,7 +20,7 @@ find-for-requires : tie.Need-find-for-requires
 find-for-requires c κs =
     let a = c .before .before .before .before .before .before .before .before .before .args in
     let r = c .before .before .before .before .before .read in
-    (good-is (a .sheet .now) (r .result) (r .ensures .0) (c .before .before .before .enum-told .given .1), r .ensures .1)
+    proper-is (a .sheet .now) (r .result) (r .ensures .0) (c .before .before .before .enum-told .given .1) (r .ensures .1)
 
 returns : tie.Need-returns
 unfolding findOf findSheet _then_ findIn
@@ -38,12 +37,12 @@ same-length-2 : tie.Need-same-length-2
 same-length-2 c = search needs
 
 returns-2 : tie.Need-returns-2
-unfolding findOf
+unfolding findOf findSheet _then_
 returns-2 c =
     let a = c .before .before .before .before .before .before .before .before .before .before .before .before .before .before .args in
     let r = c .before .before .before .before .before .before .before .before .before .before .read in
     let f = c .before .before .before .before .find-for .ensures in
-    rw (find-by (a .sheet .now) (a .book .now) (a .annotation .now) _ (sheet-is (a .sheet .now) (r .result) (r .ensures .0) (c .before .before .before .before .before .before .before .before .enum-told .given .1))) f
+    rw (sheet-is (a .sheet .now) (r .result) (r .ensures .0) (c .before .before .before .before .before .before .before .before .enum-told .given .1)) f
 
 pub find-spec : {M : Type 1} → statement M
 find-spec =

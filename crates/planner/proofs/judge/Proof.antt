@@ -1,9 +1,8 @@
--- `planner::judge` meets its contract: the sheet is read, and then the book judged. Assumes nothing.
+-- `planner::judge` meets its contract: the sheet is read, and then the book judged.
 use borrow.Author.Needs.{needs}
-use Rattle.model.specs.Sheet.{_then_}
+use Rattle.model.specs.Reading.{_then_}
 use Rattle.model.specs.Calls.{bookAndRoom, judged, judgeOf}
-use Rattle.judging.proofs.Read.{book-by}
-use Rattle.planner.proofs.Sheets.{refusal-is, sheet-is, good-is}
+use Rattle.planner.proofs.Sheets.{refusal-is, sheet-is, proper-is}
 use Rattle.planner.proofs.judge.Statement.{statement}
 use Rattle.planner.proofs.judge.Tie as tie
 
@@ -20,7 +19,7 @@ judge-for-requires : tie.Need-judge-for-requires
 judge-for-requires c κs =
     let a = c .before .before .before .before .before .before .before .args in
     let r = c .before .before .before .read in
-    (good-is (a .sheet .now) (r .result) (r .ensures .0) (c .before .enum-told .given .1), r .ensures .1)
+    proper-is (a .sheet .now) (r .result) (r .ensures .0) (c .before .enum-told .given .1) (r .ensures .1)
 
 returns : tie.Need-returns
 unfolding judgeOf bookAndRoom _then_ judged
@@ -31,11 +30,11 @@ returns c =
     rw e
 
 returns-2 : tie.Need-returns-2
-unfolding judgeOf
+unfolding judgeOf bookAndRoom _then_
 returns-2 c =
     let a = c .before .before .before .before .before .before .before .before .args in
     let r = c .before .before .before .before .read in
-    rw (book-by (a .sheet .now) (a .book .now) (a .annotation .now) _ (sheet-is (a .sheet .now) (r .result) (r .ensures .0) (c .before .before .enum-told .given .1))) (c .judge-for .ensures)
+    rw (sheet-is (a .sheet .now) (r .result) (r .ensures .0) (c .before .before .enum-told .given .1)) (c .judge-for .ensures)
 
 pub judge-spec : {M : Type 1} → statement M
 judge-spec =

@@ -1,11 +1,9 @@
--- `planner::range` meets its contract: the sheet is read, and then the book. Assumes nothing.
-use mathlib.Core.Path.{_∙_}
+-- `planner::range` meets its contract: the sheet is read, and then the book.
 use borrow.Author.Needs.{needs}
-use Rattle.model.specs.Sheet.{_then_}
-use Rattle.model.specs.Calls.{cut, partSheet, partOf}
-use Rattle.composition.proofs.Sheets.{sized}
-use Rattle.book.proofs.Same.{same-part, part-by}
-use Rattle.planner.proofs.Sheets.{refusal-is, sheet-is, good-is}
+use Rattle.model.specs.Reading.{_then_}
+use Rattle.model.specs.Calls.{cut, partArchitecture, partOf}
+use Rattle.sheet.proofs.Sheets.{architecture-proper}
+use Rattle.planner.proofs.Sheets.{refusal-is, sheet-is, proper-is}
 use Rattle.planner.proofs.range.Statement.{statement}
 use Rattle.planner.proofs.range.Tie as tie
 
@@ -21,17 +19,14 @@ nowhere-requires c κs = search needs
 enum-told : tie.Need-enum-told
 enum-told c = search needs
 
-of-requires : tie.Need-of-requires
-of-requires c κs = search needs
-
 range-for-requires : tie.Need-range-for-requires
 range-for-requires c κs =
     let a = c .before .before .before .before .before .before .before .args in
     let r = c .before .before .before .before .read in
-    sized _ _ (c .of .ensures) (good-is (a .sheet .now) (r .result) (r .ensures .0) (c .before .before .enum-told .given .1))
+    architecture-proper _ (proper-is (a .sheet .now) (r .result) (r .ensures .0) (c .before .before .enum-told .given .1) (r .ensures .1))
 
 returns : tie.Need-returns
-unfolding partOf partSheet _then_ cut
+unfolding partOf partArchitecture _then_ cut
 returns c =
     let a = c .before .before .before .before .before .before .before .args in
     let r = c .before .before .before .before .read in
@@ -39,12 +34,11 @@ returns c =
     rw e (c .nowhere .ensures)
 
 returns-2 : tie.Need-returns-2
-unfolding partOf
+unfolding partOf partArchitecture _then_
 returns-2 c =
     let a = c .before .before .before .before .before .before .before .before .args in
     let r = c .before .before .before .before .before .read in
-    let e = part-by (a .sheet .now) (a .book .now) (a .process) _ (sheet-is (a .sheet .now) (r .result) (r .ensures .0) (c .before .before .before .enum-told .given .1)) in
-    rw e (c .range-for .ensures ∙ same-part _ _ (c .before .of .ensures) (a .book .now) (a .process))
+    rw (sheet-is (a .sheet .now) (r .result) (r .ensures .0) (c .before .before .before .enum-told .given .1)) (c .range-for .ensures)
 
 pub range-spec : {M : Type 1} → statement M
 range-spec =
@@ -54,7 +48,6 @@ range-spec =
     enum-known-answer
     nowhere-requires
     enum-told
-    of-requires
     range-for-requires
     returns
     returns-2)

@@ -1,11 +1,9 @@
--- `planner::read` meets its contract: the sheet is read, and then the book. Assumes nothing.
-use mathlib.Core.Path.{ap, _∙_}
+-- `planner::read` meets its contract: the sheet is read, and then the book.
 use borrow.Author.Needs.{needs}
-use Rattle.model.specs.Sheet.{_then_}
-use Rattle.model.specs.Calls.{gave, readOf}
-use Rattle.composition.proofs.Sheets.{sized}
-use Rattle.book.proofs.Same.{same-book}
-use Rattle.planner.proofs.Sheets.{refusal-is, sheet-is, good-is}
+use Rattle.model.specs.Reading.{_then_}
+use Rattle.model.specs.Calls.{readOf}
+use Rattle.sheet.proofs.Sheets.{architecture-proper}
+use Rattle.planner.proofs.Sheets.{refusal-is, sheet-is, proper-is}
 use Rattle.planner.proofs.read.Statement.{statement}
 use Rattle.planner.proofs.read.Tie as tie
 
@@ -21,14 +19,11 @@ unread-requires c κs = search needs
 enum-told : tie.Need-enum-told
 enum-told c = search needs
 
-of-requires : tie.Need-of-requires
-of-requires c κs = search needs
-
 read-for-requires : tie.Need-read-for-requires
 read-for-requires c κs =
     let a = c .before .before .before .before .before .before .before .args in
     let r = c .before .before .before .before .read in
-    sized _ _ (c .of .ensures) (good-is (a .sheet .now) (r .result) (r .ensures .0) (c .before .before .enum-told .given .1))
+    architecture-proper _ (proper-is (a .sheet .now) (r .result) (r .ensures .0) (c .before .before .enum-told .given .1) (r .ensures .1))
 
 returns : tie.Need-returns
 unfolding readOf _then_
@@ -43,7 +38,7 @@ unfolding readOf _then_
 returns-2 c =
     let a = c .before .before .before .before .before .before .before .before .args in
     let r = c .before .before .before .before .before .read in
-    rw (sheet-is (a .sheet .now) (r .result) (r .ensures .0) (c .before .before .before .enum-told .given .1)) (c .read-for .ensures ∙ ap gave (same-book _ _ (c .before .of .ensures) (a .book .now)))
+    rw (sheet-is (a .sheet .now) (r .result) (r .ensures .0) (c .before .before .before .enum-told .given .1)) (c .read-for .ensures)
 
 pub read-spec : {M : Type 1} → statement M
 read-spec =
@@ -53,7 +48,6 @@ read-spec =
     enum-known-answer
     unread-requires
     enum-told
-    of-requires
     read-for-requires
     returns
     returns-2)

@@ -1,11 +1,10 @@
--- `planner::write` meets its contract: the sheet is read, and then the tables are written. Assumes nothing.
-use mathlib.Core.Path.{_≡_, refl, sym, _∙_}
+-- `planner::write` meets its contract: the sheet is read, and then the tables are written.
+use mathlib.Core.Path.{refl}
 use borrow.Author.Needs.{needs}
-use Rattle.model.specs.Sheet.{_then_}
+use Rattle.model.specs.Reading.{_then_}
 use Rattle.model.specs.Calls.{wrote, written, writeOf}
-use Rattle.composition.proofs.Sheets.{sized}
-use Rattle.book.proofs.Same.{same-written, written-by}
-use Rattle.planner.proofs.Sheets.{refusal-is, sheet-is, good-is}
+use Rattle.sheet.proofs.Sheets.{architecture-proper}
+use Rattle.planner.proofs.Sheets.{refusal-is, sheet-is, proper-is}
 use Rattle.planner.proofs.write.Statement.{statement}
 use Rattle.planner.proofs.write.Tie as tie
 
@@ -18,14 +17,11 @@ enum-known-answer c = search needs
 enum-told : tie.Need-enum-told
 enum-told c = search needs
 
-of-requires : tie.Need-of-requires
-of-requires c κs = search needs
-
 write-for-requires : tie.Need-write-for-requires
 write-for-requires c κs =
     let a = c .before .before .before .before .before .before .before .before .args in
     let r = c .before .before .before .before .before .read in
-    sized _ _ (c .before .of .ensures) (good-is (a .sheet .now) (r .result) (r .ensures .0) (c .before .before .before .enum-told .given .1))
+    architecture-proper _ (proper-is (a .sheet .now) (r .result) (r .ensures .0) (c .before .before .before .enum-told .given .1) (r .ensures .1))
 
 returns : tie.Need-returns
 unfolding writeOf written _then_ wrote
@@ -39,11 +35,11 @@ same-length : tie.Need-same-length
 same-length c = search needs
 
 returns-2 : tie.Need-returns-2
-unfolding writeOf
+unfolding writeOf written _then_
 returns-2 c =
     let a = c .before .before .before .before .before .before .before .before .before .before .before .args in
     let r = c .before .before .before .before .before .before .before .before .read in
-    let e : written (a .sheet .now) (a .tables .now) (a .book .now) ≡ _ = written-by (a .sheet .now) (a .tables .now) (a .book .now) _ (sheet-is (a .sheet .now) (r .result) (r .ensures .0) (c .before .before .before .before .before .before .enum-told .given .1)) ∙ sym (same-written _ _ (c .before .before .before .before .of .ensures) (a .tables .now) (a .book .now)) in
+    let e = sheet-is (a .sheet .now) (r .result) (r .ensures .0) (c .before .before .before .before .before .before .enum-told .given .1) in
     rw e (c .before .before .write-for .ensures .0, c .before .before .write-for .ensures .1)
 
 pub write-spec : {M : Type 1} → statement M
@@ -53,7 +49,6 @@ write-spec =
     read-requires
     enum-known-answer
     enum-told
-    of-requires
     write-for-requires
     returns
     same-length

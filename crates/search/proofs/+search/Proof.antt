@@ -1,4 +1,4 @@
--- `search::search` meets its contract. Its measure is `left`, the count of entries still open. The loop's invariant: with each lower value at k the partial choice is none-keeps, and but for k, which is settled, it is that of the entry.
+-- `search::search` meets its contract. Its measure is `left`, the count of entries still open. The loop's invariant: with each lower value at k no completion of the partial choice keeps the sheet, and but for k, which is settled, it is that of the entry.
 use mathlib.Core.Path.{_≡_, refl, sym, ap, subst, subst₂, subst₃, _∙_}
 use mathlib.Core.Bool.{true}
 use mathlib.Core.List.{List}
@@ -12,7 +12,7 @@ use borrow.Author.Needs.{needs}
 use Rattle.model.specs.Sheet.{Sheet}
 use Rattle.model.specs.Choice.{may, entries}
 use Rattle.sheet.specs.Struct.{sheetOf}
-use Rattle.layout.specs.Codes.{kindOf}
+use Rattle.choice.specs.Kinds.{kindOf}
 use Rattle.partial.specs.Says.{NoneKeeps, ExploredSays, Work}
 use Rattle.search.specs.Search.{Kinds, Ready, opens}
 use Rattle.search.specs.Says.{Finds}
@@ -37,22 +37,22 @@ abbrev search-below : ℕ → In 11 search-kinds.ps
 search-below t = and 11 search-kinds.ps (falls 11 search-kinds.ps _<_ μ-search t) search′.Pre
 
 abbrev search-Inv-loop : search-lts.InvT-loop
-search-Inv-loop values₀ unset₀ left sheet a rows indexes met kinds numbers₀ stack₀ waiting₀ targets₀ steps₀ k kind v₀ values unset numbers stack waiting targets steps v =
+search-Inv-loop values₀ unset₀ left sheet rows indexes met kinds numbers₀ stack₀ waiting₀ targets₀ steps₀ k kind v₀ values unset numbers stack waiting targets steps v =
     Trying (kindOf kind) (λ u. NoneKeeps (sheetOf sheet) (set values₀ k u) unset₀) v × (set values k 0 ≡ values₀) × (unset ≡ unset₀) × Work numbers stack waiting targets steps
 
 abbrev search-μ-loop : search-lts.MeasureT-loop
-search-μ-loop values₀ unset₀ left sheet a rows indexes met kinds numbers₀ stack₀ waiting₀ targets₀ steps₀ k kind v₀ values unset numbers stack waiting targets steps v =
+search-μ-loop values₀ unset₀ left sheet rows indexes met kinds numbers₀ stack₀ waiting₀ targets₀ steps₀ k kind v₀ values unset numbers stack waiting targets steps v =
     256 - v
 
 abbrev claims : ℕ → search-lts.Claims
 claims t = (explore-reads.Asked, explore-reads.Learnt, next-value-reads.Asked, next-value-reads.Learnt, search-below t, search′.Post)
 
 module _ (t : ℕ) where
-  -- a need, or a index of the code
+  -- a need, or a position of the code
   abbrev Of : (search-lts.Claims → In 11 search-kinds.ps → Out 11 search-kinds.ps search-kinds.r → search-lts.InvT-loop → search-lts.MeasureT-loop → Type 0) → Type 0
   Of N = N (claims t) (search-at t) search′.Post search-Inv-loop search-μ-loop
 
-  -- ---- indexes
+  -- ---- positions
   abbrev Started : Type 0
   Started = Of search-lts.Start
 
@@ -60,13 +60,13 @@ module _ (t : ℕ) where
     abbrev s : Sheet
     s = sheetOf (b .args .sheet)
 
-    abbrev kinds-are : Kinds s (b .args .kinds .now)
+    abbrev kinds-are : Kinds (s .architecture) (b .args .kinds .now)
     kinds-are = b .pre .1 .1 .1 .0
 
-    abbrev ready : Ready s (b .args .values .now) (b .args .unset .now)
+    abbrev ready : Ready (s .architecture) (b .args .values .now) (b .args .unset .now)
     ready = b .pre .1 .1 .1 .1 .0
 
-    abbrev few : opens (b .args .unset .now) (length (entries s)) ≤ b .args .left
+    abbrev few : opens (b .args .unset .now) (length (entries (s .architecture))) ≤ b .args .left
     few = b .pre .1 .1 .1 .1 .1 .0
 
   -- explore is back
@@ -89,7 +89,7 @@ module _ (t : ℕ) where
   abbrev k : Need → ℕ
   k a = a .explored .given .0 .0
 
-  opened : (a : Need) → Opened (s (started a)) (started a .args .values .now) (started a .args .unset .now) (started a .args .kinds .now) (k a)
+  opened : (a : Need) → Opened (s (started a) .architecture) (started a .args .values .now) (started a .args .unset .now) (started a .args .kinds .now) (k a)
   opened a =
       let b = started a in
       let says = said (a .before .before) _ (a .explored .given .1) in
@@ -124,7 +124,7 @@ module _ (t : ℕ) where
   search-explore-requires : Of search-lts.Need-explore-requires
   search-explore-requires c κs =
       let b = c .before .before .before .before .before .before .before .before .before .before .before .before in
-      (b .pre .1 .0, (b .pre .1 .1 .0 .0, (b .pre .1 .1 .0 .1, (ready b .choice, (omega (arith, ready b .unset-long, kinds-are b .few), b .pre .1 .1 .1 .1 .1 .1)))))
+      (b .pre .1 .0, (b .pre .1 .1 .0, (ready b .choice, (omega (arith, ready b .unset-long, kinds-are b .few), b .pre .1 .1 .1 .1 .1 .1))))
 
   search-enum-told : Of search-lts.Need-enum-told
   search-enum-told c = search needs
@@ -173,7 +173,7 @@ module _ (t : ℕ) where
       let b = started a in
       let o = opened a in
       let m : may (kindOf (getD (b .args .kinds .now) (k a) 0)) (l .loop .v) ≡ true = l .loop .inv .0 .may-be (c .before .before .before .before .before .before .before .loop-test .taken) in
-      (omega arith, (b .pre .1 .0, (b .pre .1 .1 .0, (kinds-are b, (subst₂ (Ready (s b)) (sym (narrowed l)) (sym (l .loop .inv .2)) (set-ready o (l .loop .v) m), (omega (arith, ap (λ (x : List ℕ). opens x (length (entries (s b)))) (l .loop .inv .2), opens-fewer o, few b), l .loop .inv .3))))))
+      (omega arith, (b .pre .1 .0, (b .pre .1 .1 .0, (kinds-are b, (subst₂ (Ready (s b .architecture)) (sym (narrowed l)) (sym (l .loop .inv .2)) (set-ready o (l .loop .v) m), (omega (arith, ap (λ (x : List ℕ). opens x (length (entries (s b .architecture)))) (l .loop .inv .2), opens-fewer o, few b), l .loop .inv .3))))))
 
   search-enum-told-3 : Of search-lts.Need-enum-told-3
   search-enum-told-3 c = search needs
@@ -182,7 +182,7 @@ module _ (t : ℕ) where
   search-returns-2 c =
       let f = c .before .before in
       let l = looping f in
-      (found-wider (opened (asking l)) (l .loop .v) _ (told f _ (c .enum-told3 .given .1)), f .search .ensures .1)
+      (found-wider (opened (asking l)) (l .loop .v) (s (started (asking l))) _ (told f _ (c .enum-told3 .given .1)), f .search .ensures .1)
 
   search-enum-told-4 : Of search-lts.Need-enum-told-4
   search-enum-told-4 c = search needs
@@ -236,7 +236,7 @@ module _ (t : ℕ) where
       let l = c .before in
       let a = asking l in (
         record {
-          none-keeps = all-tried (opened a) (started a .pre .1 .0) (l .loop .v) (c .loop-test .left) (l .loop .inv .0);
+          none-keeps = all-tried (s (started a)) (opened a) (started a .pre .1 .0 .proper) (l .loop .v) (c .loop-test .left) (l .loop .inv .0);
           same-values = l .loop .inv .1;
           same-unset = rw (l .loop .inv .2) (unset-back (opened a));
         },

@@ -16,14 +16,14 @@ use Rattle.search.proofs.first.Statement.{statement}
 use Rattle.search.proofs.first.Tie as tie
 
 abbrev Inv-loop : tie.InvT-loop
-Inv-loop witness₀ n values₀ unset₀ sheet a rows indexes met kinds numbers₀ stack₀ waiting₀ targets₀ steps₀ i₀ witness values unset numbers stack waiting targets steps i =
+Inv-loop witness₀ n values₀ unset₀ sheet rows indexes met kinds numbers₀ stack₀ waiting₀ targets₀ steps₀ i₀ witness values unset numbers stack waiting targets steps i =
     (i ≤ n) × Leading (sheetOf sheet) i witness × Work numbers stack waiting targets steps
 
 abbrev μ-loop : tie.MeasureT-loop
-μ-loop witness₀ n values₀ unset₀ sheet a rows indexes met kinds numbers₀ stack₀ waiting₀ targets₀ steps₀ i₀ witness values unset numbers stack waiting targets steps i =
+μ-loop witness₀ n values₀ unset₀ sheet rows indexes met kinds numbers₀ stack₀ waiting₀ targets₀ steps₀ i₀ witness values unset numbers stack waiting targets steps i =
     n - i
 
--- ---- indexes
+-- ---- positions
 abbrev At : (tie.InvT-loop → tie.MeasureT-loop → Type 0) → Type 0
 At P = P Inv-loop μ-loop
 
@@ -31,10 +31,10 @@ module _ (b : At tie.Start) where
   abbrev s : Sheet
   s = sheetOf (b .args .sheet)
 
-  abbrev kinds-are : Kinds s (b .args .kinds .now)
+  abbrev kinds-are : Kinds (s .architecture) (b .args .kinds .now)
   kinds-are = b .pre .1 .1 .0
 
-  abbrev count : b .args .n ≡ length (entries s)
+  abbrev count : b .args .n ≡ length (entries (s .architecture))
   count = b .pre .1 .1 .1 .0
 
 -- the partial choice is begun, with all entries open
@@ -44,7 +44,7 @@ Begin = At tie.After-begin
 abbrev started : Begin → At tie.Start
 started g = g .before .before .before .before .before .before .before
 
-begun : (g : Begin) → Begun (length (entries (s (started g)))) (started g .args .witness .now) 0 (g .begin .last .0) (g .begin .last .1 .0)
+begun : (g : Begin) → Begun (length (entries (s (started g) .architecture))) (started g .args .witness .now) 0 (g .begin .last .0) (g .begin .last .1 .0)
 begun g = subst (λ (n : ℕ). Begun n (started g .args .witness .now) 0 (g .begin .last .0) (g .begin .last .1 .0)) (count (started g)) (g .begin .ensures)
 
 -- the search is back: what it said of that
@@ -69,8 +69,8 @@ search-requires : tie.Need-search-requires Inv-loop μ-loop
 search-requires c κs =
     let g = c .before .before .before .before .before .before .before in
     let b = started g in
-    let r = begun-ready (begun g) (b .pre .0) (kinds-are b .few) (λ k h. absurd (omega arith)) in
-    (b .pre .0, (b .pre .1 .0, (kinds-are b, (r, (omega (arith, opens-few (s b) _ _ r, count b), b .pre .1 .1 .1 .1 .1)))))
+    let r = begun-ready (begun g) (b .pre .0 .proper .architecture) (kinds-are b .few) (λ k h. absurd (omega arith)) in
+    (b .pre .0, (b .pre .1 .0, (kinds-are b, (r, (omega (arith, opens-few (s b .architecture) _ _ r, count b), b .pre .1 .1 .1 .1 .1)))))
 
 enum-told : tie.Need-enum-told Inv-loop μ-loop
 enum-told c = search needs
@@ -79,7 +79,7 @@ returns : tie.Need-returns Inv-loop μ-loop
 returns c =
     let f = c .before .before in
     let g = asking f in
-    nothing-first (s (started g)) _ _ _ (started g .pre .0) (begun g) (told f _ (c .enum-told .given .1) .none-keeps)
+    nothing-first (s (started g)) _ _ _ (started g .pre .0 .proper) (begun g) (told f _ (c .enum-told .given .1) .none-keeps)
 
 enum-told-2 : tie.Need-enum-told-2 Inv-loop μ-loop
 enum-told-2 c = search needs
@@ -110,8 +110,8 @@ returns-2 : tie.Need-returns-2 Inv-loop μ-loop
 returns-2 c =
     let l = c .before in
     let b = c .before .before .before .before .before .before .before .before .before .before .before .before .before .before .before .before .before .before .before .before in
-    let e : l .loop .i ≡ length (entries (s b)) = omega (arith, c .loop-test .left, l .loop .inv .0, count b) in
-    (l .loop .inv .1 .witness, leading-first (s b) _ (b .pre .0) (subst (λ (i : ℕ). Leading (s b) i (l .loop .witness)) e (l .loop .inv .1)))
+    let e : l .loop .i ≡ length (entries (s b .architecture)) = omega (arith, c .loop-test .left, l .loop .inv .0, count b) in
+    (l .loop .inv .1 .witness, leading-first (s b) _ (b .pre .0 .proper) (subst (λ (i : ℕ). Leading (s b) i (l .loop .witness)) e (l .loop .inv .1)))
 
 pub first-spec : {M : Type 1} → statement M
 first-spec =

@@ -6,7 +6,7 @@ use native.Mathlib.Omega.{arith}
 use borrow.Author.Needs.{needs}
 use borrow.Author.Count.{below-more}
 use Rattle.model.specs.Choice.{may}
-use Rattle.layout.specs.Codes.{kindOf}
+use Rattle.choice.specs.Kinds.{kindOf}
 use Rattle.search.proofs.next_value.Statement.{statement}
 use Rattle.search.proofs.next_value.Tie as tie
 

@@ -9,7 +9,7 @@ use borrow.Author.Needs.{needs}
 use Rattle.model.specs.Sheet.{Sheet}
 use Rattle.model.specs.Choice.{may, entries}
 use Rattle.sheet.specs.Struct.{sheetOf}
-use Rattle.layout.specs.Codes.{kindOf}
+use Rattle.choice.specs.Kinds.{kindOf}
 use Rattle.partial.specs.Says.{Work}
 use Rattle.search.specs.Search.{Kinds, Witness, Begun, Least}
 use Rattle.search.specs.Says.{Finds}
@@ -19,14 +19,14 @@ use Rattle.search.proofs.settle.Statement.{statement}
 use Rattle.search.proofs.settle.Tie as tie
 
 abbrev Inv-loop : tie.InvT-loop
-Inv-loop witness₀ i n values₀ unset₀ sheet a rows indexes met kinds numbers₀ stack₀ waiting₀ targets₀ steps₀ kind most v₀ witness values unset numbers stack waiting targets steps v =
+Inv-loop witness₀ i n values₀ unset₀ sheet rows indexes met kinds numbers₀ stack₀ waiting₀ targets₀ steps₀ kind most v₀ witness values unset numbers stack waiting targets steps v =
     Trying (kindOf kind) (Lost (sheetOf sheet) i witness₀) v × (witness ≡ witness₀) × Work numbers stack waiting targets steps
 
 abbrev μ-loop : tie.MeasureT-loop
-μ-loop witness₀ i n values₀ unset₀ sheet a rows indexes met kinds numbers₀ stack₀ waiting₀ targets₀ steps₀ kind most v₀ witness values unset numbers stack waiting targets steps v =
+μ-loop witness₀ i n values₀ unset₀ sheet rows indexes met kinds numbers₀ stack₀ waiting₀ targets₀ steps₀ kind most v₀ witness values unset numbers stack waiting targets steps v =
     256 - v
 
--- ---- indexes
+-- ---- positions
 abbrev At : (tie.InvT-loop → tie.MeasureT-loop → Type 0) → Type 0
 At P = P Inv-loop μ-loop
 
@@ -34,17 +34,17 @@ module _ (b : At tie.Start) where
   abbrev s : Sheet
   s = sheetOf (b .args .sheet)
 
-  abbrev kinds-are : Kinds s (b .args .kinds .now)
+  abbrev kinds-are : Kinds (s .architecture) (b .args .kinds .now)
   kinds-are = b .pre .1 .1 .0
 
-  abbrev count : b .args .n ≡ length (entries s)
+  abbrev count : b .args .n ≡ length (entries (s .architecture))
   count = b .pre .1 .1 .1 .0 .0
 
   abbrev witness : Witness s (b .args .witness .now)
   witness = b .pre .1 .1 .1 .1 .0
 
   settling : Settling s (b .args .kinds .now) (b .args .i) (b .args .witness .now)
-  settling = record { good = b .pre .0; kinds-are = kinds-are; inside = omega (arith, count, b .pre .1 .1 .1 .0 .1); witness = witness }
+  settling = record { good = b .pre .0 .proper; kinds-are = kinds-are; inside = omega (arith, count, b .pre .1 .1 .1 .0 .1); witness = witness }
 
 -- the partial choice is begun
 abbrev Begin : Type 0
@@ -56,11 +56,11 @@ looping g = g .before .before .before .before .before
 abbrev started : Begin → At tie.Start
 started g = g .before .before .before .before .before .before .before .before .before .before .before .before .before
 
-begun : (g : Begin) → Begun (length (entries (s (started g)))) (started g .args .witness .now) (started g .args .i) (g .begin .last .0) (g .begin .last .1 .0)
+begun : (g : Begin) → Begun (length (entries (s (started g) .architecture))) (started g .args .witness .now) (started g .args .i) (g .begin .last .0) (g .begin .last .1 .0)
 begun g =
     subst₂ (λ (n : ℕ) (w : List ℕ). Begun n w (started g .args .i) (g .begin .last .0) (g .begin .last .1 .0)) (count (started g)) (looping g .loop .inv .1) (g .begin .ensures)
 
-opened : (g : Begin) → Opened (s (started g)) (g .begin .last .0) (g .begin .last .1 .0) (started g .args .kinds .now) (started g .args .i)
+opened : (g : Begin) → Opened (s (started g) .architecture) (g .begin .last .0) (g .begin .last .1 .0) (started g .args .kinds .now) (started g .args .i)
 opened g = begun-opened (settling (started g)) (begun g)
 
 -- the search is back: what it said of that, with v at i
@@ -120,7 +120,7 @@ search-requires c κs =
     let b = started g in
     let m : may (kindOf (getD (b .args .kinds .now) (b .args .i) 0)) (l .loop .v) ≡ true = l .loop .inv .0 .may-be (omega arith) in
     let r = set-ready (opened g) (l .loop .v) m in
-    (b .pre .0, (b .pre .1 .0, (kinds-are b, (r, (omega (arith, opens-few (s b) _ _ r, count b), l .loop .inv .2)))))
+    (b .pre .0, (b .pre .1 .0, (kinds-are b, (r, (omega (arith, opens-few (s b .architecture) _ _ r, count b), l .loop .inv .2)))))
 
 enum-told : tie.Need-enum-told Inv-loop μ-loop
 enum-told c = search needs

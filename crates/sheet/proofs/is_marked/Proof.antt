@@ -1,11 +1,19 @@
--- `sheet::is_marked` meets its contract. Assumes nothing.
-use mathlib.Core.Path.{sym}
+-- `sheet::is_marked` meets its contract. Fewer than two bytes are no mark, and of two each must be the mark's.
+use mathlib.Core.Path.{_≡_, sym}
+use mathlib.Core.Bool.{false}
 use borrow.Author.Tests.{ne-eqb}
 use borrow.Author.Needs.{needs}
-use Rattle.model.specs.Sheet.{marked}
+use Rattle.model.specs.Reading.{short, marked}
 use Rattle.sheet.proofs.Tests.{too-few, enough, mark-rest}
 use Rattle.sheet.proofs.is_marked.Statement.{statement}
 use Rattle.sheet.proofs.is_marked.Tie as tie
+
+-- the place at which the first byte is compared
+abbrev comparing : tie.After-if22 → tie.Else1
+comparing c = c .before .before
+
+whole : (c : tie.Else1) → short (c .before .args .sheet .now) (c .before .args .at) 2 ≡ false
+whole c = enough (c .before .args .sheet .now) (c .before .args .at) 2 (c .before .pre) (c .if1 .left)
 
 sub-if1 : tie.Need-sub-if1
 sub-if1 c = search needs
@@ -22,7 +30,7 @@ element-copy-out-if2 c = search needs
 
 returns-2 : tie.Need-returns-2
 unfolding marked
-returns-2 c = let a = c .before .before .before .before .args in simp (enough (a .sheet .now) (a .at) 2 (c .before .before .before .before .pre) (c .before .before .before .if1 .left), ne-eqb _ _ (c .if2 .taken))
+returns-2 c = simp (whole (comparing (c .before)), ne-eqb _ _ (c .if2 .taken))
 
 add-result : tie.Need-add-result
 add-result c = search needs
@@ -34,8 +42,11 @@ element-copy-out-result : tie.Need-element-copy-out-result
 element-copy-out-result c = search needs
 
 returns-3 : tie.Need-returns-3
-unfolding marked
-returns-3 c = let s = c .before .before .before .before .before .before .args .sheet .now in let a = c .before .before .before .before .before .before .args .at in let m = c .before .before .before .before .before .before .args .mark .now in sym (mark-rest s m a (c .before .before .before .before .before .before .pre) (c .before .before .before .before .before .if1 .left) (c .before .before .if2 .left))
+returns-3 c =
+    let same = c .before .before in
+    let w = comparing (same .before) in
+    let s = w .before in
+    sym (mark-rest (s .args .sheet .now) (s .args .mark .now) (s .args .at) (s .pre) (w .if1 .left) (same .if2 .left))
 
 pub is-marked-spec : {M : Type 1} → statement M
 is-marked-spec =

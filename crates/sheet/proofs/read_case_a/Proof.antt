@@ -1,8 +1,8 @@
--- `sheet::read_case_a` meets its contract: that the definition reads the 60 bytes as a proper sheet is computed. Assumes nothing.
+-- `sheet::read_case_a` meets its contract: that the definition reads the 60 bytes as a proper sheet is computed.
 use mathlib.Core.Path.{sym, ap, _∙_}
 use borrow.Author.Needs.{needs}
 use Rattle.model.specs.Calls.{reply}
-use Rattle.sheet.specs.CaseA.{caseA, reads-a}
+use Rattle.sheet.proofs.CaseA.{reads-a}
 use Rattle.sheet.proofs.Sheets.{answer-is}
 use Rattle.sheet.proofs.read_case_a.Statement.{statement}
 use Rattle.sheet.proofs.read_case_a.Tie as tie
@@ -14,7 +14,6 @@ read-requires : tie.Need-read-requires
 read-requires c κs = search needs
 
 returns : tie.Need-returns
-unfolding caseA
 returns c = let r = c .read .result in sym (answer-is (r .answer) (r .sheet)) ∙ ap reply (c .read .ensures .0) ∙ reads-a
 
 pub read-case-a-spec : {M : Type 1} → statement M

@@ -1,18 +1,14 @@
--- `synthesis::find_for` meets its contract: where there is room, the first choice decides. Assumes nothing.
+-- `synthesis::find_for` meets its contract: where there is room, the first choice decides.
 use mathlib.Core.Path.{_≡_, refl, sym, subst, _∙_}
 use borrow.Author.Needs.{needs}
-use Rattle.model.specs.Sheet.{proper}
-use Rattle.model.specs.Calls.{findIn, findChoice}
+use Rattle.model.specs.Reading.{proper}
+use Rattle.model.specs.Calls.{findIn, findChoice, roomToFind}
 use Rattle.sheet.specs.Struct.{sheetOf}
 use Rattle.search.specs.declared.Searched.{Searched}
 use Rattle.search.specs.Says.{Leads}
-use Rattle.synthesis.specs.Find.{roomToFind}
 use Rattle.synthesis.proofs.Room.{no-room, some-room}
 use Rattle.synthesis.proofs.find_for.Statement.{statement}
 use Rattle.synthesis.proofs.find_for.Tie as tie
-
-of-requires : tie.Need-of-requires
-of-requires c κs = search needs
 
 check-room-requires : tie.Need-check-room-requires
 check-room-requires c κs = search needs
@@ -29,7 +25,7 @@ same-length-2 c = search needs
 returns : tie.Need-returns
 unfolding findIn
 returns c =
-    let a = c .before .before .before .before .before .before .before .before .before .args in
+    let a = c .before .before .before .before .before .before .before .before .args in
     let e = no-room (sheetOf (a .sheet)) (a .book .now) (a .annotation .now) (c .before .room .given .0 .0) (sym (c .before .room .given .1) ∙ c .before .before .before .check-room .ensures) in
     rw e (refl, (refl, refl))
 
@@ -37,15 +33,15 @@ enum-told : tie.Need-enum-told
 enum-told c = search needs
 
 -- there is room
-room-is : (c : tie.After-enum-told) → let a = c .before .before .before .before .before .before .before .before .args in roomToFind (sheetOf (a .sheet)) (a .book .now) (a .annotation .now) ≡ proper (sheetOf (a .sheet))
+room-is : (c : tie.After-enum-told) → let a = c .before .before .before .before .before .before .before .args in roomToFind (sheetOf (a .sheet)) (a .book .now) (a .annotation .now) ≡ proper (sheetOf (a .sheet))
 room-is c = some-room _ _ _ (sym (c .enum-told .given .1) ∙ c .before .before .check-room .ensures)
 
 first-tables-requires : tie.Need-first-tables-requires
 first-tables-requires c κs = search needs
 
 -- what the search says, by its answer
-leads : (c : tie.After-first-tables) (r : Searched) → c .first-tables .result ≡ r → Leads (sheetOf (c .before .before .before .before .before .before .before .before .before .before .args .sheet)) (c .first-tables .last .0) r
-leads c r e = subst (Leads (sheetOf (c .before .before .before .before .before .before .before .before .before .before .args .sheet)) (c .first-tables .last .0)) e (c .first-tables .ensures)
+leads : (c : tie.After-first-tables) (r : Searched) → c .first-tables .result ≡ r → Leads (sheetOf (c .before .before .before .before .before .before .before .before .before .args .sheet)) (c .first-tables .last .0) r
+leads c r e = subst (Leads (sheetOf (c .before .before .before .before .before .before .before .before .before .args .sheet)) (c .first-tables .last .0)) e (c .first-tables .ensures)
 
 enum-told-2 : tie.Need-enum-told-2
 enum-told-2 c = search needs
@@ -55,8 +51,8 @@ enum-told-3 c = search needs
 
 put-found-requires : tie.Need-put-found-requires
 put-found-requires c κs =
-    let p = c .before .before .before .before .before .before .before .before .before .before .before .before .before .before .before .pre in
-    (p .0, (p .1, (c .before .before .before .before .before .before .before .before .before .before .before .before .of .ensures, (leads (c .before .before .before .before .before) Searched.Tables (c .before .before .before .enum-told3 .given .1) .0, room-is (c .before .before .before .before .before .before .before)))))
+    let b = c .before .before .before .before .before .before .before .before .before .before .before .before .before .before in
+    (b .pre, (leads (c .before .before .before .before .before) Searched.Tables (c .before .before .before .enum-told3 .given .1) .0, room-is (c .before .before .before .before .before .before .before)))
 
 same-length-3 : tie.Need-same-length-3
 same-length-3 c = search needs
@@ -84,7 +80,6 @@ pub find-for-spec : {M : Type 1} → statement M
 find-for-spec =
     tie.close
     (tie.spec
-    of-requires
     check-room-requires
     enum-known-room
     same-length

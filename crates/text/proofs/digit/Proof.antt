@@ -1,4 +1,4 @@
--- `text::digit` meets its contract. Assumes nothing.
+-- `text::digit` meets its contract: the test against 10 is the one of the definition.
 use borrow.Author.Needs.{needs}
 use borrow.Author.Tests.{lt-ltb, le-ltb}
 use Rattle.model.specs.Mask.{if}

@@ -1,4 +1,4 @@
--- `text::greater` meets its contract. Assumes nothing.
+-- `text::greater` meets its contract: a blank counts as 0, and the second test picks the greater.
 use native.Mathlib.Omega.{arith}
 use borrow.Author.Tests.{eq-eqb, ne-eqb}
 use Rattle.model.specs.Mask.{if}

@@ -1,4 +1,4 @@
--- `text::greatest` meets its contract. The invariant: the greatest so far, and that of the rest, are the greatest of all. Assumes nothing.
+-- `text::greatest` meets its contract. The invariant: the greatest so far, and that of the rest, are the greatest of all.
 use mathlib.Core.Path.{_≡_, _∙_}
 use Prim.Native.Nat.{_-_, _≤_, max}
 use native.Mathlib.Omega.{arith}

@@ -1,6 +1,6 @@
--- `text::put` meets its contract. Assumes nothing.
+-- `text::put` meets its contract: a store appends one byte.
 use borrow.Author.Needs.{needs}
-use Rattle.text.proofs.Bytes.{put-one}
+use Rattle.append.proofs.Appended.{append-one}
 use Rattle.text.proofs.put.Statement.{statement}
 use Rattle.text.proofs.put.Tie as tie
 
@@ -14,7 +14,7 @@ same-length : tie.Need-same-length
 same-length c = search needs
 
 returns : tie.Need-returns
-returns c = put-one (c .args .text .now) (c .args .at) (c .args .byte) c.pre
+returns c = append-one (c .args .text .now) (c .args .at) (c .args .byte) c.pre
 
 pub put-spec : {M : Type 1} → statement M
 put-spec = tie.close (tie.spec slice-write-text add-result same-length returns)

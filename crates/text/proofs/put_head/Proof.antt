@@ -1,39 +1,61 @@
--- `text::put_head` meets its contract. Assumes nothing.
+-- `text::put_head` meets its contract: its four parts, each behind the one before. There is room for each, since there is for all.
 use native.Mathlib.Omega.{arith}
 use lib.ListN.{length-append}
 use borrow.Author.Needs.{needs}
 use Rattle.text.specs.Text.{hex}
-use Rattle.text.proofs.Bytes.{put-more}
+use Rattle.append.proofs.Appended.{append-more}
 use Rattle.text.proofs.put_head.Statement.{statement}
 use Rattle.text.proofs.put_head.Tie as tie
+
+-- ---- back from each part
+abbrev entry : tie.After-put-decimal → tie.Start
+entry c = c .before .before .before
+
+abbrev process : tie.After-put-field → tie.After-put-decimal
+process c = c .before .before .before .before
+
+abbrev state : tie.After-put → tie.After-put-field
+state c = c .before .before .before .before
 
 put-decimal-requires : tie.Need-put-decimal-requires
 put-decimal-requires c κs = omega (arith, simp length-append at (c .before .before .pre))
 
 put-field-requires : tie.Need-put-field-requires
 put-field-requires c κs =
-    let p = c .before .before .before .put-decimal in
-    omega (arith, simp length-append at (c .before .before .before .before .before .before .pre), p .ensures .ends, p .kept .0)
+    let p = c .before .before .before in
+    omega (arith, simp length-append at (entry p .pre), p .put-decimal .ensures .ends, p .put-decimal .kept .0)
 
 put-requires : tie.Need-put-requires
 put-requires c κs =
-    let p = c .before .before .before .before .before .before .before .put-decimal in
-    let q = c .before .before .before .put-field in
-    omega (arith, simp length-append at (c .before .before .before .before .before .before .before .before .before .before .pre), p .ensures .ends, p .kept .0, q .ensures .ends, q .kept .0)
+    let s = c .before .before .before in
+    let p = process s in
+    omega (arith, simp length-append at (entry p .pre), p .put-decimal .ensures .ends, p .put-decimal .kept .0, s .put-field .ensures .ends, s .put-field .kept .0)
 
 put-hex-requires : tie.Need-put-hex-requires
 unfolding hex
 put-hex-requires c κs =
-    let p = c .before .before .before .before .before .before .before .before .before .before .before .put-decimal in
-    let q = c .before .before .before .before .before .before .before .put-field in
-    let r = c .before .before .before .put in
-    omega (arith, simp length-append at (c .before .before .before .before .before .before .before .before .before .before .before .before .before .before .pre), p .ensures .ends, p .kept .0, q .ensures .ends, q .kept .0, r .ensures .ends, r .kept .0)
+    let space = c .before .before .before in
+    let s = state space in
+    let p = process s in
+    omega (
+      arith,
+      simp length-append at (entry p .pre),
+      p .put-decimal .ensures .ends,
+      p .put-decimal .kept .0,
+      s .put-field .ensures .ends,
+      s .put-field .kept .0,
+      space .put .ensures .ends,
+      space .put .kept .0,
+    )
 
 same-length : tie.Need-same-length
 same-length c = search needs
 
 returns : tie.Need-returns
-returns c = put-more (put-more (put-more (c .before .before .before .before .before .before .before .before .before .before .before .before .before .before .put-decimal .ensures) (c .before .before .before .before .before .before .before .before .before .before .put-field .ensures)) (c .before .before .before .before .before .before .put .ensures)) (c .before .before .put-hex .ensures)
+returns c =
+    let space = c .before .before .before .before .before .before in
+    let s = state space in
+    append-more (append-more (append-more (process s .put-decimal .ensures) (s .put-field .ensures)) (space .put .ensures)) (c .before .before .put-hex .ensures)
 
 pub put-head-spec : {M : Type 1} → statement M
 put-head-spec =

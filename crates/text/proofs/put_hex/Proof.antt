@@ -1,7 +1,7 @@
--- `text::put_hex` meets its contract. Assumes nothing.
+-- `text::put_hex` meets its contract: the high digit, and behind it the low one.
 use borrow.Author.Needs.{needs}
 use Rattle.text.specs.Text.{hex}
-use Rattle.text.proofs.Bytes.{put-more}
+use Rattle.append.proofs.Appended.{append-more}
 use Rattle.text.proofs.put_hex.Statement.{statement}
 use Rattle.text.proofs.put_hex.Tie as tie
 
@@ -22,7 +22,10 @@ same-length c = search needs
 
 returns : tie.Need-returns
 unfolding hex
-returns c = rw (← c .before .before .before .before .before .before .before .before .digit .ensures, ← c .before .before .before .digit2 .ensures) (put-more (c .before .before .before .before .before .before .before .put .ensures) (c .before .before .put2 .ensures))
+returns c =
+    let low = c .before .before in
+    let high = low .before .before .before .before .before in
+    rw (← high .before .digit .ensures, ← low .before .digit2 .ensures) (append-more (high .put .ensures) (low .put2 .ensures))
 
 pub put-hex-spec : {M : Type 1} → statement M
 put-hex-spec =

@@ -1,11 +1,18 @@
--- `text::put_row` meets its contract. Assumes nothing.
+-- `text::put_row` meets its contract: the head, the next states and a line feed, each behind the one before.
 use native.Mathlib.Omega.{arith}
 use lib.ListN.{length-append}
 use borrow.Author.Needs.{needs}
 use Rattle.text.specs.Text.{rowText}
-use Rattle.text.proofs.Bytes.{put-more}
+use Rattle.append.proofs.Appended.{append-more}
 use Rattle.text.proofs.put_row.Statement.{statement}
 use Rattle.text.proofs.put_row.Tie as tie
+
+-- ---- back from each part
+abbrev entry : tie.After-put-head → tie.Start
+entry c = c .before .before .before .before .before
+
+abbrev head : tie.After-put-next → tie.After-put-head
+head c = c .before .before .before .before
 
 shared-slice-read-put-head : tie.Need-shared-slice-read-put-head
 shared-slice-read-put-head c = search needs
@@ -17,22 +24,24 @@ put-head-requires c κs = simp length-append (omega (arith, simp length-append a
 put-next-requires : tie.Need-put-next-requires
 unfolding rowText
 put-next-requires c κs =
-    let p = c .before .before .before .put-head in
-    omega (arith, simp length-append at (c .before .before .before .before .before .before .before .before .pre .0), simp length-append at (p .ensures .ends), p .kept .0)
+    let h = c .before .before .before in
+    omega (arith, simp length-append at (entry h .pre .0), simp length-append at (h .put-head .ensures .ends), h .put-head .kept .0)
 
 put-requires : tie.Need-put-requires
 unfolding rowText
 put-requires c κs =
-    let p = c .before .before .before .before .before .before .before .put-head in
-    let q = c .before .before .before .put-next in
-    omega (arith, simp length-append at (c .before .before .before .before .before .before .before .before .before .before .before .before .pre .0), simp length-append at (p .ensures .ends), p .kept .0, q .ensures .ends, q .kept .0)
+    let n = c .before .before .before in
+    let h = head n in
+    omega (arith, simp length-append at (entry h .pre .0), simp length-append at (h .put-head .ensures .ends), h .put-head .kept .0, n .put-next .ensures .ends, n .put-next .kept .0)
 
 same-length : tie.Need-same-length
 same-length c = search needs
 
 returns : tie.Need-returns
 unfolding rowText
-returns c = put-more (put-more (c .before .before .before .before .before .before .before .before .before .before .put-head .ensures) (c .before .before .before .before .before .before .put-next .ensures)) (c .before .before .put .ensures)
+returns c =
+    let n = c .before .before .before .before .before .before in
+    append-more (append-more (head n .put-head .ensures) (n .put-next .ensures)) (c .before .before .put .ensures)
 
 pub put-row-spec : {M : Type 1} → statement M
 put-row-spec =

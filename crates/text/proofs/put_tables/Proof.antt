@@ -1,60 +1,60 @@
--- `text::put_tables` meets its contract. The invariant: what was put, with the rows of the processes still due behind it, is all. Assumes nothing.
-use mathlib.Core.Path.{_≡_, refl, _∙_}
+-- `text::put_tables` meets its contract. The invariant: what was written and the rows of the processes from i on are all.
 use Prim.Native.Nat.{_+_, _-_, _≤_}
 use native.Mathlib.Omega.{arith}
-use lib.ListN.{length, getD, drop}
-use Rattle.sheet.specs.Struct.{processesOf}
-use Rattle.composition.specs.Struct.{processIn, firstIn, processesIn, entriesOf}
+use lib.ListN.{getD}
+use Rattle.architecture.specs.Struct.{processesOf, processIn, firstIn, processesIn, entriesOf}
+use Rattle.append.proofs.Appending.{Appending, Opens, appending-none, appending-next, appending-length, appending-room, appending-all}
 use Rattle.text.specs.Text.{rowsText, tablesText}
-use Rattle.text.proofs.Bytes.{Due, Next, due-all, due-less, due-none, due-room}
-use Rattle.text.proofs.Rows.{tables-turn, tables-end}
+use Rattle.text.proofs.Rows.{tablesFrom, tables-open, tables-end}
 use Rattle.text.proofs.put_tables.Statement.{statement}
 use Rattle.text.proofs.put_tables.Tie as tie
 
 abbrev Inv-loop : tie.InvT-loop
-Inv-loop text₀ start a tables n at₀ i₀ text at i =
-    (i ≤ n) × ((length text ≡ length text₀) × Due text₀ start (tablesText 0 (processesIn a) 0 tables) at text (tablesText i (drop i (processesIn a)) (entriesOf (firstIn a i)) tables))
+Inv-loop text₀ start a tables n at₀ i₀ text at i = (i ≤ n) × Appending text₀ start (tablesText 0 (processesIn a) 0 tables) at text (tablesFrom a tables i)
 
 abbrev μ-loop : tie.MeasureT-loop
 μ-loop text₀ start a tables n at₀ i₀ text at i = n - i
 
+-- back into the loop
+abbrev turn : tie.After-slice-known2 Inv-loop μ-loop → tie.In-loop Inv-loop μ-loop
+turn c = c .before .before .before .before
+
 loop-holds : tie.Need-loop-holds Inv-loop μ-loop
 unfolding processesOf entriesOf
-loop-holds c = (omega arith, (refl, due-all _ _ _))
+loop-holds c = (omega arith, appending-none _ _ _)
 
--- the rows of the process that are put next
-next : (c : tie.In-loop Inv-loop μ-loop) → let a = c .before .before .before .before .args in let l = c .before .loop in
-    Next (a .text .now) (a .start) (tablesText 0 (processesIn (a .a)) 0 (a .tables .now)) (l .at) (l .text)
-    (rowsText (l .i) (processIn (a .a) (l .i)) (entriesOf (firstIn (a .a) (l .i))) (a .tables .now) (getD (a .a .bounds) (l .i) 0) 0)
-    (tablesText (l .i + 1) (drop (l .i + 1) (processesIn (a .a))) (entriesOf (firstIn (a .a) (l .i + 1))) (a .tables .now))
-next c =
-    let a = c .before .before .before .before .args in
-    record { due = rw (tables-turn (a .a) (a .tables .now) (c .before .loop .i) (c .loop-test .taken)) at (c .before .loop .inv .1 .1) }
+-- the entry of the function
+abbrev entry : tie.At-loop Inv-loop μ-loop → tie.Start Inv-loop μ-loop
+entry c = c .before .before .before
+
+-- the rows of process i are due next
+next : (c : tie.In-loop Inv-loop μ-loop) → let a = entry (c .before) .args .a in let t = entry (c .before) .args .tables .now in let i = c .before .loop .i in
+    Opens (tablesFrom a t i) (rowsText i (processIn a i) (entriesOf (firstIn a i)) t (getD (a .bounds) i 0) 0) (tablesFrom a t (i + 1))
+next c = tables-open (entry (c .before) .args .a) (entry (c .before) .args .tables .now) (c .before .loop .i) (c .loop-test .taken)
 
 put-rows-requires : tie.Need-put-rows-requires Inv-loop μ-loop
 put-rows-requires c κs =
-    let p = c .before .before .before .before .before .pre in
-    (p .0, (c .before .loop-test .taken, (p .1 .0, due-room (next (c .before)) (p .1 .1) (c .before .before .loop .inv .1 .0))))
+    let l = c .before .before in
+    let p = entry l .pre in
+    (p .0, (c .before .loop-test .taken, (p .1 .0, appending-room (l .loop .inv .1) (p .1 .1) (next (c .before)))))
 
 add-i : tie.Need-add-i Inv-loop μ-loop
-add-i c = omega (arith, c .before .before .before .before .loop-test .taken, c .before .before .before .before .before .before .before .before .pre .0 .few-processes)
+add-i c = omega (arith, turn c .loop-test .taken, entry (turn c .before) .pre .0 .arrays .few-processes)
 
 loop-less : tie.Need-loop-less Inv-loop μ-loop
-loop-less c = omega (arith, c .before .before .before .before .loop-test .taken)
+loop-less c = omega (arith, turn c .loop-test .taken)
 
 loop-again : tie.Need-loop-again Inv-loop μ-loop
-loop-again c =
-    let put = c .before .before .put-rows in
-    (omega (arith, c .before .before .before .before .loop-test .taken), (put .kept .0 ∙ c .before .before .before .before .before .loop .inv .1 .0, due-less (next (c .before .before .before .before)) (put .ensures)))
+loop-again c = (omega (arith, turn c .loop-test .taken), appending-next (turn c .before .loop .inv .1) (next (turn c)) (c .before .before .put-rows .ensures))
 
 same-length : tie.Need-same-length Inv-loop μ-loop
-same-length c = c .before .loop .inv .1 .0
+same-length c = appending-length (c .before .loop .inv .1) (entry (c .before) .pre .1 .1)
 
 returns : tie.Need-returns Inv-loop μ-loop
 returns c =
-    let a = c .before .before .before .before .args in
-    let l = c .before .loop in
-    due-none (rw (tables-end (a .a) (a .tables .now) (l .i) (omega (arith, c .loop-test .left, l .inv .0))) at (l .inv .1 .1))
+    let l = c .before in
+    let a = entry l .args in
+    appending-all (rw (tables-end (a .a) (a .tables .now) (l .loop .i) (omega (arith, c .loop-test .left, l .loop .inv .0))) at (l .loop .inv .1))
 
 pub put-tables-spec : {M : Type 1} → statement M
 put-tables-spec =

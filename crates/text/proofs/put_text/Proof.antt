@@ -1,10 +1,11 @@
--- `text::put_text` meets its contract. Assumes nothing.
+-- `text::put_text` meets its contract: the first line, the rows and the last line, each behind the one before.
 use native.Mathlib.Omega.{arith}
 use lib.ListN.{length-append}
 use borrow.Author.Needs.{needs}
-use Rattle.composition.specs.Struct.{sheetWith}
-use Rattle.text.specs.Text.{textOf}
-use Rattle.text.proofs.Bytes.{put-more}
+use Rattle.architecture.specs.Struct.{architectureOf}
+use Rattle.text.specs.Text.{tablesWord, rowCount, line, textOf}
+use Rattle.append.specs.Appends.{Appends}
+use Rattle.append.proofs.Appended.{append-more}
 use Rattle.text.proofs.put_text.Statement.{statement}
 use Rattle.text.proofs.put_text.Tie as tie
 
@@ -15,16 +16,28 @@ row-count-requires : tie.Need-row-count-requires
 row-count-requires c κs = search needs
 
 put-line-requires : tie.Need-put-line-requires
-unfolding textOf sheetWith
+unfolding textOf architectureOf
 put-line-requires c κs = rw (c .row-count .ensures) (omega (arith, simp length-append at (c .before .before .before .before .before .before .pre .1 .1)))
 
+-- ---- back from each part
+module _ (c : tie.After-put-line) where
+  abbrev entry : tie.Start
+  entry = c .before .before .before .before .before .before .before
+
+  -- the first line, with the count of rows
+  first : Appends (entry .args .text .now) 0 (line tablesWord (rowCount (architectureOf (entry .args .a) .processes))) (c .put-line .result) (c .put-line .last .0)
+  unfolding architectureOf
+  first = rw (c .before .row-count .ensures) at (c .put-line .ensures)
+
+abbrev counted : tie.After-put-tables → tie.After-put-line
+counted c = c .before .before .before .before
+
 put-tables-requires : tie.Need-put-tables-requires
-unfolding textOf sheetWith
+unfolding textOf architectureOf
 put-tables-requires c κs =
-    let s = c .before .before .before .before .before .before .before .before .before .before in
-    let p = c .before .before .before .put-line in
-    let e = rw (c .before .before .before .before .row-count .ensures) at (p .ensures) in
-    (s .pre .0, (s .pre .1 .0, omega (arith, simp length-append at (s .pre .1 .1), e .ends, p .kept .0)))
+    let l = c .before .before .before in
+    let b = entry l in
+    (b .pre .0, (b .pre .1 .0, omega (arith, simp length-append at (b .pre .1 .1), first l .ends, l .put-line .kept .0)))
 
 slice-aggregate-put-line-2 : tie.Need-slice-aggregate-put-line-2
 slice-aggregate-put-line-2 c = search needs
@@ -36,22 +49,22 @@ cast-put-line : tie.Need-cast-put-line
 cast-put-line c = search needs
 
 put-line-requires-2 : tie.Need-put-line-requires-2
-unfolding textOf sheetWith
+unfolding textOf architectureOf
 put-line-requires-2 c κs =
-    let p = c .before .before .before .before .before .before .before .before .before .put-line in
-    let e = rw (c .before .before .before .before .before .before .before .before .before .before .row-count .ensures) at (p .ensures) in
-    let q = c .before .before .before .before .before .put-tables in
-    rw (c .greatest .ensures) (omega (arith, simp length-append at (c .before .before .before .before .before .before .before .before .before .before .before .before .before .before .before .before .pre .1 .1), e .ends, p .kept .0, q .ensures .ends, q .kept .0))
+    let t = c .before .before .before .before .before in
+    let l = counted t in
+    rw (c .greatest .ensures)
+    (omega (arith, simp length-append at (entry l .pre .1 .1), first l .ends, l .put-line .kept .0, t .put-tables .ensures .ends, t .put-tables .kept .0))
 
 same-length : tie.Need-same-length
 same-length c = search needs
 
 returns : tie.Need-returns
-unfolding textOf sheetWith
+unfolding textOf architectureOf
 returns c =
-    let first = rw (c .before .before .before .before .before .before .before .before .before .before .before .before .before .row-count .ensures) at (c .before .before .before .before .before .before .before .before .before .before .before .before .put-line .ensures) in
+    let t = c .before .before .before .before .before .before .before .before in
     let last = rw (c .before .before .before .greatest .ensures) at (c .before .before .put-line2 .ensures) in
-    put-more (put-more first (c .before .before .before .before .before .before .before .before .put-tables .ensures)) last
+    append-more (append-more (first (counted t)) (t .put-tables .ensures)) last
 
 pub put-text-spec : {M : Type 1} → statement M
 put-text-spec =

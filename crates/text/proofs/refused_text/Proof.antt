@@ -1,10 +1,10 @@
--- `text::refused_text` meets its contract. Assumes nothing.
+-- `text::refused_text` meets its contract: a number of 32 bits has few digits, so that there is room for its line.
 use Prim.Native.Nat.{_≤_}
 use native.Mathlib.Omega.{arith}
 use lib.ListN.{length, length-append}
 use borrow.Author.Needs.{needs}
 use Rattle.text.specs.Text.{refusedWord, line}
-use Rattle.text.proofs.Bytes.{put-whole}
+use Rattle.text.proofs.WholeText.{whole-text}
 use Rattle.text.proofs.Numbers.{decimal-short}
 use Rattle.text.proofs.refused_text.Statement.{statement}
 use Rattle.text.proofs.refused_text.Tie as tie
@@ -27,7 +27,7 @@ put-line-requires : tie.Need-put-line-requires
 put-line-requires c κs = omega (arith, short c)
 
 returns : tie.Need-returns
-returns c = rw (← c .before .number .ensures) (put-whole (c .put-line .ensures) (omega arith) (omega (arith, short (c .before))))
+returns c = rw (← c .before .number .ensures) (whole-text (c .put-line .ensures) (omega arith) (omega (arith, short (c .before))))
 
 pub refused-text-spec : {M : Type 1} → statement M
 refused-text-spec =

@@ -1,10 +1,10 @@
--- `text::row_count` meets its contract. The invariant: the rows so far, and those of the processes still due, are all. Assumes nothing.
+-- `text::row_count` meets its contract. The invariant: the rows so far, and those of the processes still due, are all.
 use mathlib.Core.Path.{_≡_}
 use Prim.Native.Nat.{_+_, _-_, _*_, _≤_}
 use native.Mathlib.Omega.{arith}
 use lib.ListN.{drop}
-use Rattle.composition.specs.Struct.{processesIn}
-use Rattle.composition.proofs.Structs.{process-next, processes-end}
+use Rattle.architecture.specs.Struct.{processesIn}
+use Rattle.architecture.proofs.Processes.{facts, process-next, processes-end}
 use Rattle.text.specs.Text.{rowCount}
 use Rattle.text.proofs.row_count.Statement.{statement}
 use Rattle.text.proofs.row_count.Tie as tie
@@ -23,13 +23,13 @@ bound-of-requires c κs = (c .before .before .pre, c .loop-test .taken)
 
 -- a process has few rows
 few : (c : tie.After-bound-of Inv-loop μ-loop) → c .bound-of .result ≤ 4
-few c = omega (arith, c .bound-of .ensures, c .before .before .before .pre .few-states (c .before .before .loop .i) (c .before .loop-test .taken))
+few c = omega (arith, c .bound-of .ensures, facts (c .before .before .before .pre) .few-states (c .before .before .loop .i) (c .before .loop-test .taken))
 
 add-rows : tie.Need-add-rows Inv-loop μ-loop
-add-rows c = omega (arith, few c, c .before .before .before .pre .few-processes)
+add-rows c = omega (arith, few c, facts (c .before .before .before .pre) .few-processes)
 
 add-i : tie.Need-add-i Inv-loop μ-loop
-add-i c = omega (arith, c .before .before .before .pre .few-processes)
+add-i c = omega (arith, facts (c .before .before .before .pre) .few-processes)
 
 loop-less : tie.Need-loop-less Inv-loop μ-loop
 loop-less c = omega arith

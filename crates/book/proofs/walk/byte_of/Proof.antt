@@ -1,9 +1,8 @@
--- `book::walk::byte_of` meets its contract. Assumes nothing.
+-- `book::walk::byte_of` meets its contract: a word that is 0 is an entry, any other says the byte that is due.
 use native.Mathlib.Omega.{arith}
 use lib.Seq.{drop-cons}
 use borrow.Author.Needs.{needs}
-use Rattle.model.specs.Book.{filled}
-use Rattle.model.proofs.BookInverse.{holes}
+use Rattle.model.specs.Book.{holes, filled}
 use Rattle.book.proofs.Slots.{slot-entry, slot-due}
 use Rattle.book.proofs.walk.byte_of.Statement.{statement}
 use Rattle.book.proofs.walk.byte_of.Tie as tie

@@ -1,7 +1,8 @@
--- `book::walk::differs` meets its contract. Assumes nothing.
+-- `book::walk::differs` meets its contract: at an entry no byte is due, and any other word says the byte that is due.
+use mathlib.Core.Bool.{and-true}
 use borrow.Author.Needs.{needs}
 use Rattle.model.specs.Book.{wellFormed}
-use Rattle.book.proofs.Slots.{and-true, slot-entry, slot-due}
+use Rattle.book.proofs.Slots.{slot-entry, slot-due}
 use Rattle.book.proofs.walk.differs.Statement.{statement}
 use Rattle.book.proofs.walk.differs.Tie as tie
 

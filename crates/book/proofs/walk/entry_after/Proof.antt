@@ -1,7 +1,7 @@
--- `book::walk::entry_after` meets its contract. Assumes nothing.
+-- `book::walk::entry_after` meets its contract: the word tells whether its slot is an entry.
 use native.Mathlib.Omega.{arith}
 use borrow.Author.Needs.{needs}
-use Rattle.model.proofs.BookInverse.{holes}
+use Rattle.model.specs.Book.{holes}
 use Rattle.book.proofs.Slots.{slot-entry, slot-due}
 use Rattle.book.proofs.walk.entry_after.Statement.{statement}
 use Rattle.book.proofs.walk.entry_after.Tie as tie

@@ -1,25 +1,31 @@
--- `book::walk::take_entries` meets its contract. The invariant: the entries among the first k slots are at the front. Assumes nothing.
-use mathlib.Core.Path.{_≡_, refl, sym, ap, _∙_}
-use mathlib.Core.List.{List, [], _∷_}
-use Prim.Native.Nat.{ℕ, _-_, _≤_}
+-- `book::walk::take_entries` meets its contract. The invariant: the entries among the first k slots are at the front.
+use mathlib.Core.Path.{_≡_}
+use mathlib.Core.List.{[], _∷_, _++_}
+use Prim.Native.Nat.{ℕ, _+_, _-_, _≤_}
 use native.Mathlib.Omega.{arith}
-use lib.ListN.{length, getD, length-append}
+use lib.ListN.{length, getD}
 use Rattle.model.specs.Book.{entriesIn}
 use Rattle.model.specs.Calls.{front}
-use Rattle.layout.specs.Codes.{slotOf, slotsOf}
-use Rattle.book.proofs.Slots.{slots-length, entries-length, entries-more, holes-fewer, entries-room, front-more, front-length}
+use Rattle.append.specs.Appends.{Appends}
+use Rattle.append.proofs.Appended.{append-none, append-more, append-length, append-front}
+use Rattle.layout.specs.Slots.{slotOf, slotsOf}
+use Rattle.book.proofs.Slots.{entries-more, entries-fit, entries-room}
 use Rattle.book.proofs.walk.take_entries.Statement.{statement}
 use Rattle.book.proofs.walk.take_entries.Tie as tie
 
 abbrev Inv-loop : tie.InvT-loop
-Inv-loop tables₀ slots n book e₀ k₀ tables e k = (k ≤ n) × ((e ≡ length (entriesIn (slotsOf slots k) book)) × (tables ≡ front (entriesIn (slotsOf slots k) book) tables₀))
+Inv-loop tables₀ slots n book e₀ k₀ tables e k = (k ≤ n) × Appends tables₀ 0 (entriesIn (slotsOf slots k) book) e tables
 
 abbrev μ-loop : tie.MeasureT-loop
 μ-loop tables₀ slots n book e₀ k₀ tables e k = n - k
 
+-- back into the loop
+abbrev turn : tie.After-slice-known2 Inv-loop μ-loop → tie.In-loop Inv-loop μ-loop
+turn c = c .before .before .before .before .before .before
+
 loop-holds : tie.Need-loop-holds Inv-loop μ-loop
-unfolding entriesIn front
-loop-holds c = (omega arith, (refl, refl))
+unfolding entriesIn
+loop-holds c = (omega arith, append-none (c .before .before .before .args .tables .now) 0)
 
 mul-take-entry : tie.Need-mul-take-entry Inv-loop μ-loop
 mul-take-entry c = omega arith
@@ -30,51 +36,55 @@ shared-slice-read-take-entry c = omega arith
 shared-slice-read-take-entry-2 : tie.Need-shared-slice-read-take-entry-2 Inv-loop μ-loop
 shared-slice-read-take-entry-2 c = omega arith
 
--- the tables keep their length
-long : (c : tie.At-loop Inv-loop μ-loop) → length (c .loop .tables) ≡ length (c .before .before .before .before .args .tables .now)
-long c =
-    let a = c .before .before .before .before .args in
-    let p = c .before .before .before .before .pre in
-    let l = c .loop in
-    ap length (l .inv .1 .1)
-    ∙ front-length (entriesIn (slotsOf (a .slots .now) (l .k)) (a .book .now)) (a .tables .now)
-    (omega (arith, entries-length (slotsOf (a .slots .now) (l .k)) (a .book .now) (omega (arith, slots-length (a .slots .now) (l .k) (omega (arith, l .inv .0, p .0 .0)), l .inv .0, p .0 .1)), holes-fewer (a .slots .now) (l .k) (a .n) (l .inv .0), p .1))
+module _ (c : tie.At-loop Inv-loop μ-loop) where
+  -- the entry of the function
+  abbrev entry : tie.Start Inv-loop μ-loop
+  entry = c .before .before .before .before
+
+  -- the tables keep their length
+  long : length (c .loop .tables) ≡ length (entry .args .tables .now)
+  long =
+      let a = entry .args in
+      let p = entry .pre in
+      let few = entries-fit (a .slots .now) (a .n) (length (a .tables .now)) (p .0 .0) (p .1) (a .book .now) (p .0 .1) (c .loop .k) (c .loop .inv .0) in
+      append-length (c .loop .inv .1) (omega (arith, c .loop .inv .1 .ends, few))
 
 take-entry-requires : tie.Need-take-entry-requires Inv-loop μ-loop
 take-entry-requires c κs =
-    let a = c .before .before .before .before .before .before .before .before .args in
-    let p = c .before .before .before .before .before .before .before .before .pre in
-    let l = c .before .before .before .before .loop in
-    omega (arith, long (c .before .before .before .before), l .inv .1 .0, entries-room (a .slots .now) (l .k) (a .n) (length (a .tables .now)) (c .before .before .before .loop-test .taken) (p .0 .0) (p .1) (a .book .now) (p .0 .1))
+    let l = c .before .before .before .before in
+    let a = entry l .args in
+    let p = entry l .pre in
+    let h = c .before .before .before .loop-test .taken in
+    let room = entries-room (a .slots .now) (a .n) (length (a .tables .now)) (p .0 .0) (p .1) (a .book .now) (p .0 .1) (l .loop .k) h in
+    omega (arith, long l, l .loop .inv .1 .ends, room)
+
+-- with one slot more
+more : (c : tie.In-loop Inv-loop μ-loop) → let a = entry (c .before) .args in let k = c .before .loop .k in
+    entriesIn (slotsOf (a .slots .now) (k + 1)) (a .book .now)
+    ≡ entriesIn (slotsOf (a .slots .now) k) (a .book .now) ++ entriesIn (slotOf (getD (a .slots .now) k 0) ∷ []) (getD (a .book .now) k 0 ∷ [])
+more c =
+    let b = entry (c .before) in
+    let h = c .loop-test .taken in
+    entries-more (b .args .slots .now) (b .args .book .now) (c .before .loop .k) (omega (arith, h, b .pre .0 .0)) (omega (arith, h, b .pre .0 .1))
 
 add-k : tie.Need-add-k Inv-loop μ-loop
-add-k c = omega (arith, c .before .before .before .before .before .before .loop-test .taken)
+add-k c = omega (arith, turn c .loop-test .taken)
 
 loop-less : tie.Need-loop-less Inv-loop μ-loop
-loop-less c = omega (arith, c .before .before .before .before .before .before .loop-test .taken)
+loop-less c = omega (arith, turn c .loop-test .taken)
 
 loop-again : tie.Need-loop-again Inv-loop μ-loop
-loop-again c =
-    let a = c .before .before .before .before .before .before .before .before .before .before .before .args in
-    let p = c .before .before .before .before .before .before .before .before .before .before .before .pre in
-    let l = c .before .before .before .before .before .before .before .loop in
-    let k = c .before .before .take-entry in
-    let h = c .before .before .before .before .before .before .loop-test .taken in
-    let more = entries-more (a .slots .now) (a .book .now) (l .k) (omega (arith, h, p .0 .0)) (omega (arith, h, p .0 .1)) in
-    let old = entriesIn (slotsOf (a .slots .now) (l .k)) (a .book .now) in
-    let new = entriesIn (slotOf (getD (a .slots .now) (l .k) 0) ∷ []) (getD (a .book .now) (l .k) 0 ∷ []) in (
-      omega (arith, h),
-      (
-        k .ensures .0 ∙ rw (l .inv .1 .0) (sym (ap length more ∙ length-append old new)),
-        k .ensures .1 ∙ rw (l .inv .1 .1) (front-more old new (a .tables .now) (l .e) (k .result) (l .inv .1 .0) (k .ensures .0)) ∙ ap (λ (xs : List ℕ). front xs (a .tables .now)) (sym more),
-      ),
-    )
+loop-again c = (omega (arith, turn c .loop-test .taken), rw (more (turn c)) (append-more (turn c .before .loop .inv .1) (c .before .before .take-entry .ensures)))
 
 same-length : tie.Need-same-length Inv-loop μ-loop
 same-length c = long (c .before)
 
 returns : tie.Need-returns Inv-loop μ-loop
-returns c = let e : c .before .loop .k ≡ c .before .before .before .before .before .args .n = omega (arith, c .loop-test .left, c .before .loop .inv .0) in rw e at (c .before .loop .inv .1 .1)
+unfolding front
+returns c =
+    let a = entry (c .before) .args in
+    let l = c .before .loop in
+    append-front (λ (k : ℕ). entriesIn (slotsOf (a .slots .now) k) (a .book .now)) (l .k) (a .n) (omega (arith, c .loop-test .left, l .inv .0)) (l .inv .1)
 
 pub take-entries-spec : {M : Type 1} → statement M
 take-entries-spec =

@@ -1,7 +1,7 @@
--- `sheet::faults::ar_fault` meets its contract. Each return goes by the tests that led there. Assumes nothing.
+-- `sheet::faults::ar_fault` meets its contract. Each return goes by the tests that led there: those that failed are false, and the last one decides.
 use borrow.Author.Tests.{lt-ltb, le-ltb}
 use borrow.Author.Needs.{needs}
-use Rattle.model.specs.Sheet.{arFault}
+use Rattle.model.specs.Reading.{arFault}
 use Rattle.sheet.proofs.faults.ar_fault.Statement.{statement}
 use Rattle.sheet.proofs.faults.ar_fault.Tie as tie
 

@@ -1,7 +1,7 @@
--- `sheet::faults::au_fault` meets its contract. Each return goes by the tests that led there. Assumes nothing.
+-- `sheet::faults::au_fault` meets its contract. Each return goes by the tests that led there: those that failed are false, and the last one decides.
 use borrow.Author.Tests.{lt-ltb, le-ltb, le-leb, lt-leb, eq-eqb, ne-eqb}
 use borrow.Author.Needs.{needs}
-use Rattle.model.specs.Sheet.{auFault}
+use Rattle.model.specs.Reading.{auFault}
 use Rattle.sheet.proofs.faults.au_fault.Statement.{statement}
 use Rattle.sheet.proofs.faults.au_fault.Tie as tie
 

@@ -1,4 +1,4 @@
--- `sheet::faults::field_fault` meets its contract. Each return goes by the tests that led there. Assumes nothing.
+-- `sheet::faults::field_fault` meets its contract. Each return goes by the tests that led there: those that failed are false, and the last one decides.
 use mathlib.Core.Path.{_≡_, sym, _∙_}
 use mathlib.Core.Bool.{false, _||_}
 use Prim.Native.Nat.{_-_, _^_}
@@ -6,10 +6,40 @@ use lib.Dec.{eqb, ltb}
 use borrow.Author.Tests.{lt-ltb, le-ltb, eq-eqb, ne-eqb}
 use borrow.Author.Needs.{needs}
 use Rattle.model.specs.Mask.{share, beyond, count}
-use Rattle.model.specs.Sheet.{fieldFault}
+use Rattle.model.specs.Reading.{fieldFault}
 use Rattle.sheet.proofs.faults.field_fault.Statement.{statement}
 use Rattle.sheet.proofs.faults.field_fault.Tie as tie
 
+-- ---- the places: the inputs are variables; so are the outputs; none is the environment's
+abbrev entry : tie.Else1 → tie.Start
+entry c = c .before .before
+
+abbrev first : tie.Else2 → tie.Else1
+first c = c .before .before
+
+abbrev second : tie.Else3 → tie.Else2
+second c = c .before .before
+
+abbrev start : tie.Else3 → tie.Start
+start c = entry (first (second c))
+
+inputs-known : (c : tie.Else1) → beyond (entry c .args .inputs) (entry c .args .variables) ≡ false
+inputs-known c = sym (c .before .is-beyond .ensures) ∙ c .if1 .left
+
+outputs-known : (c : tie.Else2) → let a = entry (first c) .args in beyond (a .outputs) (a .variables) ≡ false
+outputs-known c = sym (c .before .is-beyond2 .ensures) ∙ c .if2 .left
+
+own-outputs : (c : tie.Else3) → let a = start c .args in share (a .outputs) (2 ^ a .environment - 1) ≡ false
+unfolding share
+own-outputs c = simp (sym (c .before .lowest .ensures), eq-eqb _ _ (c .if3 .left))
+
+-- few inputs: the other tests decide
+rest : (c : tie.Else4) → let a = start (c .before) .args in
+    fieldFault (a .variables) (a .environment) (record { inputs = a .inputs; outputs = a .outputs; bound = a .bound }) ≡ (share (a .inputs) (a .outputs) || eqb (a .bound) 0 || ltb 4 (a .bound))
+unfolding fieldFault count
+rest c = let d = c .before in simp (inputs-known (first (second d)), outputs-known (second d), own-outputs d, le-ltb _ _ (c .if4 .left))
+
+-- ---- the needs
 is-beyond-requires : tie.Need-is-beyond-requires
 is-beyond-requires c κs = search needs
 
@@ -20,10 +50,6 @@ returns c = simp (sym (c .before .is-beyond .ensures) ∙ c .if1 .taken)
 is-beyond-requires-2 : tie.Need-is-beyond-requires-2
 is-beyond-requires-2 c κs = search needs
 
--- the inputs are variables
-inputs-known : (c : tie.Else1) → beyond (c .before .before .args .inputs) (c .before .before .args .variables) ≡ false
-inputs-known c = sym (c .before .is-beyond .ensures) ∙ c .if1 .left
-
 returns-2 : tie.Need-returns-2
 unfolding fieldFault
 returns-2 c = simp (inputs-known (c .before .before), sym (c .before .is-beyond2 .ensures) ∙ c .if2 .taken)
@@ -31,28 +57,13 @@ returns-2 c = simp (inputs-known (c .before .before), sym (c .before .is-beyond2
 lowest-requires : tie.Need-lowest-requires
 lowest-requires c κs = search needs
 
--- the outputs are variables
-outputs-known : (c : tie.Else2) → beyond (c .before .before .before .before .args .outputs) (c .before .before .before .before .args .variables) ≡ false
-outputs-known c = sym (c .before .is-beyond2 .ensures) ∙ c .if2 .left
-
 returns-3 : tie.Need-returns-3
 unfolding fieldFault share
-returns-3 c = simp (inputs-known (c .before .before .before .before), outputs-known (c .before .before), sym (c .before .lowest .ensures), ne-eqb _ _ (c .if3 .taken))
-
--- no output is the environment's
-own-outputs : (c : tie.Else3) → share (c .before .before .before .before .before .before .args .outputs) (2 ^ c .before .before .before .before .before .before .args .environment - 1) ≡ false
-unfolding share
-own-outputs c = simp (sym (c .before .lowest .ensures), eq-eqb _ _ (c .if3 .left))
+returns-3 c = let d = c .before .before in simp (inputs-known (first d), outputs-known d, sym (c .before .lowest .ensures), ne-eqb _ _ (c .if3 .taken))
 
 returns-4 : tie.Need-returns-4
 unfolding fieldFault count
-returns-4 c = simp (inputs-known (c .before .before .before .before .before), outputs-known (c .before .before .before), own-outputs (c .before), lt-ltb _ _ (c .if4 .taken))
-
--- few inputs: the other tests decide
-rest : (c : tie.Else4) → let a = c .before .before .before .before .before .before .before .args in
-    fieldFault (a .variables) (a .environment) (record { inputs = a .inputs; outputs = a .outputs; bound = a .bound }) ≡ (share (a .inputs) (a .outputs) || eqb (a .bound) 0 || ltb 4 (a .bound))
-unfolding fieldFault count
-rest c = simp (inputs-known (c .before .before .before .before .before), outputs-known (c .before .before .before), own-outputs (c .before), le-ltb _ _ (c .if4 .left))
+returns-4 c = let d = c .before in simp (inputs-known (first (second d)), outputs-known (second d), own-outputs d, lt-ltb _ _ (c .if4 .taken))
 
 returns-5 : tie.Need-returns-5
 unfolding share

@@ -1,4 +1,4 @@
--- `sheet::faults::is_beyond` meets its contract. Assumes nothing.
+-- `sheet::faults::is_beyond` meets its contract: shifted down by n, a mask is 0 exactly where no bit stands at or above n.
 use borrow.Author.Needs.{needs}
 use Rattle.sheet.proofs.Masks.{shifted-out}
 use Rattle.sheet.proofs.faults.is_beyond.Statement.{statement}

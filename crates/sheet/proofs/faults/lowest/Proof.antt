@@ -1,4 +1,4 @@
--- `sheet::faults::lowest` meets its contract. Assumes nothing.
+-- `sheet::faults::lowest` meets its contract: one bit shifted up by n stays within the byte.
 use mathlib.Core.Path.{ap}
 use Prim.Native.Nat.{ℕ, _-_}
 use native.Mathlib.Omega.{arith}

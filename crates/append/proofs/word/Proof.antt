@@ -1,0 +1,23 @@
+-- `append::word` meets its contract: a store appends one element.
+use borrow.Author.Needs.{needs}
+use Rattle.append.proofs.Appended.{append-one}
+use Rattle.append.proofs.word.Statement.{statement}
+use Rattle.append.proofs.word.Tie as tie
+
+mul-words : tie.Need-mul-words
+mul-words c = search needs
+
+slice-write-words : tie.Need-slice-write-words
+slice-write-words c = search needs
+
+add-result : tie.Need-add-result
+add-result c = search needs
+
+same-length : tie.Need-same-length
+same-length c = search needs
+
+returns : tie.Need-returns
+returns c = append-one (c .args .words .now) (c .args .at) (c .args .value) c.pre
+
+pub word-spec : {M : Type 1} → statement M
+word-spec = tie.close (tie.spec mul-words slice-write-words add-result same-length returns)

@@ -1,0 +1,27 @@
+// Words written behind what was written: each function answers the index behind what it wrote.
+ghost use mathlib.Core.List.{_∷_, []};
+ghost use Prim.Native.Nat.{_+_, _<_, _≤_};
+ghost use lib.ListN.{length, replicate};
+ghost use Rattle.append.specs.Appends.{Appends};
+
+// One word.
+pub fn word(words: &mut [u16], at: usize, value: u16) -> usize
+    requires { ⌜ at < length (now words) ⌝ }
+    ensures { λ r. ⌜ Appends (now (words .entry)) at (value ∷ []) r (now (words .exit)) ⌝ }
+{
+    words[at] = value;
+    at + 1
+}
+
+// The same word, `count` times.
+pub fn fill(words: &mut [u16], at: usize, value: u16, count: usize) -> usize
+    requires { ⌜ at + count ≤ length (now words) ⌝ }
+    ensures { λ r. ⌜ Appends (now (words .entry)) at (replicate count value) r (now (words .exit)) ⌝ }
+{
+    let mut k: usize = 0;
+    while k < count {
+        words[at + k] = value;
+        k += 1;
+    }
+    at + count
+}

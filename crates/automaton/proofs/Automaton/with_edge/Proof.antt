@@ -1,0 +1,55 @@
+-- `automaton::Automaton::with_edge` meets its contract: four stores behind the entries that count leave those as they are.
+use mathlib.Core.Path.{refl}
+use native.Mathlib.Omega.{arith}
+use lib.ListN.{length-set}
+use borrow.Author.Needs.{needs}
+use Rattle.model.specs.Sheet.{withEdge}
+use Rattle.automaton.specs.Struct.{automatonOf}
+use Rattle.automaton.proofs.Edges.{edges-more}
+use Rattle.automaton.proofs.Automaton.with_edge.Statement.{statement}
+use Rattle.automaton.proofs.Automaton.with_edge.Tie as tie
+
+element-write-self : tie.Need-element-write-self
+element-write-self c = search needs
+
+element-write-self-2 : tie.Need-element-write-self-2
+element-write-self-2 c = search needs
+
+element-write-self-3 : tie.Need-element-write-self-3
+element-write-self-3 c = search needs
+
+element-write-self-4 : tie.Need-element-write-self-4
+element-write-self-4 c = search needs
+
+add-self : tie.Need-add-self
+add-self c = search needs
+
+returns : tie.Need-returns
+unfolding withEdge automatonOf
+returns c =
+    let u = c .args .t1 in
+    let e = c .args .edge in
+    let z = c .pre .0 in (
+      rw (edges-more (u .edges) (u .from) (u .to) (u .on) (u .off) (e .from) (e .to) (e .on) (e .off) (omega (arith, z .from-long)) (omega (arith, z .to-long)) (omega (arith, z .on-long)) (omega (arith, z .off-long))),
+      (
+        record {
+          few-edges = omega arith;
+          from-long = simp length-set (z .from-long);
+          to-long = simp length-set (z .to-long);
+          on-long = simp length-set (z .on-long);
+          off-long = simp length-set (z .off-long);
+        },
+        refl,
+      ),
+    )
+
+pub with-edge-spec : {M : Type 1} → statement M
+with-edge-spec =
+    tie.close
+    (tie.spec
+    element-write-self
+    element-write-self-2
+    element-write-self-3
+    element-write-self-4
+    add-self
+    returns)

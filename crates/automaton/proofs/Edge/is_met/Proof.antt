@@ -1,0 +1,33 @@
+-- `automaton::Edge::is_met` meets its contract: where the label lacks a bit of `on` the edge is not met, and otherwise `off` decides.
+use mathlib.Core.Path.{_≡_, refl, sym}
+use mathlib.Core.Bool.{Bool, true, false, not}
+use Prim.Native.Nat.{ℕ}
+use lib.Bits.{bitAnd}
+use lib.Dec.{eqb}
+use borrow.Author.Tests.{ne-eqb, eq-eqb}
+use Rattle.model.specs.Mask.{within, share}
+use Rattle.model.specs.Sheet.{Edge}
+use Rattle.model.specs.RunGraph.{meets}
+use Rattle.automaton.proofs.Edge.is_met.Statement.{statement}
+use Rattle.automaton.proofs.Edge.is_met.Tie as tie
+
+not-twice : (b : Bool) → not (not b) ≡ b
+not-twice true = refl
+not-twice false = refl
+
+lacks : (e : Edge) (l : ℕ) → ¬ (bitAnd (e .on) l ≡ e .on) → meets e l ≡ false
+unfolding meets within
+lacks e l n = rw (ne-eqb (bitAnd (e .on) l) (e .on) n)
+
+off-decides : (e : Edge) (l : ℕ) → bitAnd (e .on) l ≡ e .on → meets e l ≡ eqb (bitAnd (e .off) l) 0
+unfolding meets within share
+off-decides e l h = rw (eq-eqb (bitAnd (e .on) l) (e .on) h) (not-twice (eqb (bitAnd (e .off) l) 0))
+
+returns : tie.Need-returns
+returns c = sym (lacks _ _ (c .if1 .taken))
+
+returns-2 : tie.Need-returns-2
+returns-2 c = sym (off-decides _ _ (c .before .if1 .left))
+
+pub is-met-spec : {M : Type 1} → statement M
+is-met-spec = tie.close (tie.spec returns returns-2)

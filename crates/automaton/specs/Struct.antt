@@ -1,0 +1,48 @@
+-- What the structs of an automaton and of its edges stand for in the model, and what is asked of them. These are definitions.
+use mathlib.Core.Path.{_≡_}
+use mathlib.Core.List.{List, [], _∷_, _++_}
+use Prim.Native.Nat.{ℕ, zero, suc, _≤_}
+use lib.ListN.{length, getD}
+use Rattle.model.specs.Sheet as model
+use Rattle.model.specs.Sheet.{ProperAutomaton}
+use Rattle.automaton.specs.declared.Edge.{Edge}
+use Rattle.automaton.specs.declared.Automaton.{Automaton}
+
+-- the edge of the struct
+abbrev pub edgeOf : Edge → model.Edge
+edgeOf e = record { from = e .from; to = e .to; on = e .on; off = e .off }
+
+-- entry i of four arrays, as an edge
+abbrev pub edgeAt : List ℕ → List ℕ → List ℕ → List ℕ → ℕ → model.Edge
+edgeAt f t p q i = record { from = getD f i 0; to = getD t i 0; on = getD p i 0; off = getD q i 0 }
+
+-- the first n entries, as edges
+unfoldable pub edgesOf : ℕ → List ℕ → List ℕ → List ℕ → List ℕ → List model.Edge
+edgesOf zero f t p q = []
+edgesOf (suc n) f t p q = edgesOf n f t p q ++ (edgeAt f t p q n ∷ [])
+
+-- edge i of an automaton
+abbrev pub edgeIn : Automaton → ℕ → model.Edge
+edgeIn u i = edgeAt (u .from) (u .to) (u .on) (u .off) i
+
+-- the first n edges
+abbrev pub firstIn : Automaton → ℕ → List model.Edge
+firstIn u n = edgesOf n (u .from) (u .to) (u .on) (u .off)
+
+-- the automaton of the struct
+unfoldable pub automatonOf : Automaton → model.Automaton
+unfolding edgesOf
+automatonOf u = record { states = u .states; initial = u .initial; rejecting = u .rejecting; edges = firstIn u (u .edges) }
+
+-- the struct's arrays are whole, and its count is one of their lengths
+pub record Arrays (u : Automaton) : Type 0 where
+  pub few-edges : u .edges ≤ 64
+  pub from-long : length (u .from) ≡ 64
+  pub to-long : length (u .to) ≡ 64
+  pub on-long : length (u .on) ≡ 64
+  pub off-long : length (u .off) ≡ 64
+
+-- the struct holds a proper automaton over so many variables
+pub record IsProper (variables : ℕ) (u : Automaton) : Type 0 where
+  pub arrays : Arrays u
+  pub proper : ProperAutomaton variables (automatonOf u)

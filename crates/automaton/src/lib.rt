@@ -1,0 +1,92 @@
+// A universal co-Büchi automaton: what AU and the ED records of a sheet say.
+ghost use mathlib.Core.Path.{_≡_};
+ghost use mathlib.Core.List.{[], _∷_, _++_};
+ghost use Prim.Native.Nat.{_+_, _<_, _≤_};
+ghost use Rattle.model.specs.Sheet as model;
+ghost use Rattle.model.specs.RunGraph.{meets};
+ghost use Rattle.automaton.specs.Struct.{Arrays, edgeOf, edgeIn, automatonOf};
+
+// Between automaton states, met by a label with all of `on` and none of `off`.
+pub struct Edge {
+    pub from: u8,
+    pub to: u8,
+    pub on: u8,
+    pub off: u8,
+}
+
+// The first `edges` of from, to, on and off count.
+pub struct Automaton {
+    pub states: u8,
+    pub initial: u8,
+    pub rejecting: u16,
+    pub edges: usize,
+    pub from: [u8; 64],
+    pub to: [u8; 64],
+    pub on: [u8; 64],
+    pub off: [u8; 64],
+}
+
+impl Edge {
+    // The label has all of the on mask and none of the off mask.
+    pub fn is_met(self, label: u8) -> bool
+        ensures { λ r. ⌜ r ≡ meets (edgeOf self) label ⌝ }
+    {
+        if self.on & label != self.on {
+            return false;
+        }
+        self.off & label == 0
+    }
+}
+
+impl Automaton {
+    // AU, with no edge yet.
+    pub fn opened(states: u8, initial: u8, rejecting: u16) -> Automaton
+        ensures { λ r. ⌜ automatonOf r ≡ record { states = states; initial = initial; rejecting = rejecting; edges = [] } ⌝ }
+        ensures { λ r. ⌜ Arrays r × (r .edges ≡ 0) ⌝ }
+    {
+        Automaton {
+            states,
+            initial,
+            rejecting,
+            edges: 0,
+            from: [0; 64],
+            to: [0; 64],
+            on: [0; 64],
+            off: [0; 64],
+        }
+    }
+
+    // One ED more.
+    pub fn with_edge(mut self, edge: Edge) -> Automaton
+        requires { ⌜ Arrays self ⌝ }
+        requires { ⌜ self .edges < 64 ⌝ }
+        ensures { λ r. ⌜ automatonOf r ≡ model.withEdge (automatonOf self) (edgeOf edge) ⌝ }
+        ensures { λ r. ⌜ Arrays r × (r .edges ≡ self .edges + 1) ⌝ }
+    {
+        let n = self.edges;
+        self.from[n] = edge.from;
+        self.to[n] = edge.to;
+        self.on[n] = edge.on;
+        self.off[n] = edge.off;
+        self.edges = n + 1;
+        self
+    }
+
+    // Edge i.
+    pub fn edge(self, i: usize) -> Edge
+        requires { ⌜ Arrays self ⌝ }
+        requires { ⌜ i < self .edges ⌝ }
+        ensures { λ r. ⌜ edgeOf r ≡ edgeIn self i ⌝ }
+    {
+        let from = self.from;
+        let to = self.to;
+        let on = self.on;
+        let off = self.off;
+        Edge {
+            from: from[i],
+            to: to[i],
+            on: on[i],
+            off: off[i],
+        }
+    }
+}

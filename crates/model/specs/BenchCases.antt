@@ -1,0 +1,53 @@
+-- 01, "Bench cases": their sheets, and the books and annotations that are named there.
+use mathlib.Core.List.{List, [], _∷_, _++_}
+use Prim.Native.Nat.{ℕ}
+use lib.ListN.{replicate}
+use Rattle.model.specs.RunGraph.{blank}
+
+-- A's AU, seven ED and EN
+abbrev pub automatonA : List ℕ
+automatonA =
+    0x41 ∷ 0x55 ∷ 0x04 ∷ 0x00 ∷ 0x0E ∷ 0x00
+    ∷ 0x45 ∷ 0x44 ∷ 0x00 ∷ 0x00 ∷ 0x00 ∷ 0x00 ∷ 0x45 ∷ 0x44 ∷ 0x00 ∷ 0x03 ∷ 0x0C ∷ 0x00 ∷ 0x45 ∷ 0x44 ∷ 0x00 ∷ 0x01 ∷ 0x01 ∷ 0x00
+    ∷ 0x45 ∷ 0x44 ∷ 0x00 ∷ 0x02 ∷ 0x02 ∷ 0x00 ∷ 0x45 ∷ 0x44 ∷ 0x01 ∷ 0x01 ∷ 0x00 ∷ 0x04 ∷ 0x45 ∷ 0x44 ∷ 0x02 ∷ 0x02 ∷ 0x00 ∷ 0x08
+    ∷ 0x45 ∷ 0x44 ∷ 0x03 ∷ 0x03 ∷ 0x00 ∷ 0x00 ∷ 0x45 ∷ 0x4E ∷ []
+
+-- A with this bound: with 2 it is the 60 bytes of 01
+abbrev pub sheetA : ℕ → List ℕ
+sheetA bound = 0x41 ∷ 0x52 ∷ 0x04 ∷ 0x02 ∷ 0x00 ∷ 0x50 ∷ 0x52 ∷ 0x03 ∷ 0x0C ∷ bound ∷ automatonA
+
+-- C with these bounds
+abbrev pub sheetC : ℕ → ℕ → List ℕ
+sheetC b₀ b₁ = 0x41 ∷ 0x52 ∷ 0x04 ∷ 0x02 ∷ 0x00 ∷ 0x50 ∷ 0x52 ∷ 0x01 ∷ 0x04 ∷ b₀ ∷ 0x50 ∷ 0x52 ∷ 0x02 ∷ 0x08 ∷ b₁ ∷ automatonA
+
+-- E with this bound, these automaton states, rejecting mask and edges
+abbrev pub sheetE : ℕ → ℕ → ℕ → List ℕ → List ℕ
+sheetE bound states rejecting edges =
+    0x41 ∷ 0x52 ∷ 0 ∷ 0 ∷ 0 ∷ 0x50 ∷ 0x52 ∷ 0 ∷ 0 ∷ bound ∷ 0x41 ∷ 0x55 ∷ states ∷ 0 ∷ rejecting ∷ 0 ∷ edges ++ (0x45 ∷ 0x4E ∷ [])
+
+-- an edge with masks 00
+abbrev pub edge : ℕ → ℕ → List ℕ
+edge q r = 0x45 ∷ 0x44 ∷ q ∷ r ∷ 0 ∷ 0 ∷ []
+
+-- ---- books and annotations
+-- the entries of A's book: g1 in state 0, g2 in state 1, and each leads to the other
+abbrev pub choiceA : List ℕ
+choiceA = 0x04 ∷ 1 ∷ 1 ∷ 1 ∷ 1 ∷ 0x08 ∷ 0 ∷ 0 ∷ 0 ∷ 0 ∷ []
+
+-- A's book
+abbrev pub bookA : List ℕ
+bookA = 0x54 ∷ 0x42 ∷ 0x00 ∷ 0x00 ∷ 0x04 ∷ 0x01 ∷ 0x01 ∷ 0x01 ∷ 0x01 ∷ 0x54 ∷ 0x42 ∷ 0x00 ∷ 0x01 ∷ 0x08 ∷ 0x00 ∷ 0x00 ∷ 0x00 ∷ 0x00 ∷ 0x45 ∷ 0x4E ∷ []
+
+-- A's annotation: automaton states 0 to 3, eight composed states each
+abbrev pub annotationA : List ℕ
+annotationA = replicate 8 0 ++ replicate 4 2 ++ replicate 4 1 ++ replicate 4 1 ++ replicate 4 2 ++ replicate 8 blank
+
+-- D's book: each process grants in one of its two states, and they take turns
+abbrev pub bookD : List ℕ
+bookD =
+    0x54 ∷ 0x42 ∷ 0 ∷ 0 ∷ 4 ∷ 1 ∷ 1 ∷ 0x54 ∷ 0x42 ∷ 0 ∷ 1 ∷ 0 ∷ 0 ∷ 0
+    ∷ 0x54 ∷ 0x42 ∷ 1 ∷ 0 ∷ 0 ∷ 1 ∷ 1 ∷ 0x54 ∷ 0x42 ∷ 1 ∷ 1 ∷ 8 ∷ 0 ∷ 0 ∷ 0x45 ∷ 0x4E ∷ []
+
+-- E's book
+abbrev pub bookE : List ℕ
+bookE = 0x54 ∷ 0x42 ∷ 0 ∷ 0 ∷ 0 ∷ 0 ∷ 0x45 ∷ 0x4E ∷ []

@@ -1,0 +1,65 @@
+-- What is known of a front: with no process yet, and with one process more.
+use mathlib.Core.Path.{_≡_, sym, ap, ap₂, subst, _∙_}
+use mathlib.Core.Bool.{false}
+use mathlib.Core.List.{List, [], _∷_, _++_}
+use Prim.Native.Nat.{ℕ, _+_, _*_, _^_, _<_, _≤_}
+use native.Mathlib.Omega.{arith}
+use lib.Bits.{bitOr}
+use lib.ListN.{length, length-append}
+use Rattle.model.specs.Sheet.{Process, withProcess, composedStates, ProperFront}
+use Rattle.model.specs.Sheet as model
+use Rattle.model.specs.Reading.{arFault, prFault}
+use Rattle.model.proofs.ProperSheet.{opening-proper, process-more}
+use Rattle.architecture.specs.declared.Architecture.{Architecture}
+use Rattle.architecture.specs.Struct.{architectureOf, processesIn, Arrays}
+use Rattle.architecture.proofs.Processes.{count-is}
+use Rattle.sheet.specs.declared.FrontRead.{FrontRead}
+use Rattle.sheet.specs.Struct.{outputsOf, FrontKnown}
+use Rattle.sheet.proofs.Masks.{outputs-more}
+use Rattle.sheet.proofs.ComposedStates.{composed-more, composed-few}
+
+pub count-more : (x y : Architecture) (p : Process) → architectureOf y ≡ withProcess (architectureOf x) p → y .processes ≡ x .processes + 1
+unfolding withProcess
+count-more x y p e =
+    omega (arith, count-is x, count-is y, ap (λ (a : model.Architecture). length (a .processes)) e, length-append (architectureOf x .processes) (p ∷ []))
+
+-- ---- no process yet
+pub known-opened : (b : List ℕ) (f : FrontRead) (a : model.Architecture) → a .processes ≡ [] → arFault a ≡ false → architectureOf (f .architecture) ≡ a → Arrays (f .architecture)
+    → f .end ≤ length b → f .owned ≡ 0 → f .total ≡ 2 ^ a .environment → FrontKnown b f
+unfolding architectureOf outputsOf composedStates
+known-opened b f a none sound is arrays inside owned total =
+    let no-process : processesIn (f .architecture) ≡ [] = ap (λ (x : model.Architecture). x .processes) is ∙ none in
+    let environment : f .architecture .environment ≡ a .environment = ap (λ (x : model.Architecture). x .environment) is in
+    record {
+      arrays = arrays;
+      proper = subst ProperFront (sym is) (opening-proper a none sound);
+      inside = inside;
+      owned-is = owned ∙ sym (ap outputsOf no-process);
+      total-is = total ∙ sym (ap₂ composedStates environment no-process);
+    }
+
+-- ---- one process more, without fault
+module _ {b : List ℕ} {f : FrontRead} (z : FrontKnown b f) (few : f .architecture .processes < 4) (p : Process) (sound : prFault (architectureOf (f .architecture)) p ≡ false) where
+  grown : ProperFront (withProcess (architectureOf (f .architecture)) p)
+  grown = process-more (architectureOf (f .architecture)) p (z .proper) (omega (arith, count-is (f .architecture))) sound
+
+  composed-next : f .total * p .bound ≡ composedStates (f .architecture .environment) (processesIn (f .architecture) ++ (p ∷ []))
+  composed-next = ap (λ (t : ℕ). t * p .bound) (z .total-is) ∙ sym (composed-more (f .architecture .environment) (processesIn (f .architecture)) p)
+
+  pub total-few : f .total * p .bound ≤ 4096
+  unfolding withProcess architectureOf
+  total-few = subst (λ (t : ℕ). t ≤ 4096) (sym composed-next) (composed-few (withProcess (architectureOf (f .architecture)) p) grown)
+
+  pub known-more : (g : FrontRead) → architectureOf (g .architecture) ≡ withProcess (architectureOf (f .architecture)) p → Arrays (g .architecture)
+      → g .end ≤ length b → g .owned ≡ bitOr (f .owned) (p .outputs) → g .total ≡ f .total * p .bound → FrontKnown b g
+  unfolding withProcess architectureOf
+  known-more g is arrays inside owned total =
+      let processes : processesIn (g .architecture) ≡ processesIn (f .architecture) ++ (p ∷ []) = ap (λ (x : model.Architecture). x .processes) is in
+      let environment : g .architecture .environment ≡ f .architecture .environment = ap (λ (x : model.Architecture). x .environment) is in
+      record {
+        arrays = arrays;
+        proper = subst ProperFront (sym is) grown;
+        inside = inside;
+        owned-is = owned ∙ ap (λ (m : ℕ). bitOr m (p .outputs)) (z .owned-is) ∙ sym (outputs-more (processesIn (f .architecture)) p) ∙ sym (ap outputsOf processes);
+        total-is = total ∙ composed-next ∙ sym (ap₂ composedStates environment processes);
+      }

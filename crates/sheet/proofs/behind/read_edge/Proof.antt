@@ -1,0 +1,110 @@
+-- `sheet::behind::read_edge` meets its contract. Each return goes by the tests that led there: those that failed go on, the last one refuses.
+use mathlib.Core.Path.{_≡_, sym, ap, _∙_}
+use mathlib.Core.Bool.{false}
+use mathlib.Core.List.{List}
+use Prim.Native.Nat.{ℕ}
+use borrow.Author.Needs.{needs}
+use Rattle.model.specs.Sheet.{Automaton}
+use Rattle.model.specs.Reading.{proper, short}
+use Rattle.automaton.specs.Struct.{automatonOf}
+use Rattle.sheet.specs.Struct.{automatonAs}
+use Rattle.sheet.specs.Steps.{edgeFrom}
+use Rattle.model.proofs.Refusing.{stop, go}
+use Rattle.sheet.proofs.Tests.{too-few, enough, reads-as}
+use Rattle.sheet.proofs.behind.read_edge.Statement.{statement}
+use Rattle.sheet.proofs.behind.read_edge.Tie as tie
+
+-- ---- what comes in, and the place at which the whole ED is there
+module _ (s : tie.Start) where
+  abbrev bytes : List ℕ
+  bytes = s .args .sheet .now
+
+  abbrev at : ℕ
+  at = s .args .at
+
+abbrev entry : tie.Else1 → tie.Start
+entry c = c .before .before
+
+abbrev reading : tie.After-ed-fault → tie.Else1
+reading c = c .before .before .before .before .before
+
+whole : (c : tie.Else1) → short (bytes (entry c)) (at (entry c)) 6 ≡ false
+whole c = enough (bytes (entry c)) (at (entry c)) 6 (entry c .pre .0 .0) (c .if1 .left)
+
+-- ---- the needs
+sub-if1 : tie.Need-sub-if1
+sub-if1 c = search needs
+
+refuse-requires : tie.Need-refuse-requires
+refuse-requires c κs = search needs
+
+returns : tie.Need-returns
+unfolding edgeFrom
+returns c = let s = c .before .before .before in reads-as (c .refuse .ensures) (sym (stop _ _ (too-few (bytes s) (at s) 6 (c .before .if1 .taken))))
+
+add-t7 : tie.Need-add-t7
+add-t7 c = search needs
+
+shared-slice-read-t12 : tie.Need-shared-slice-read-t12
+shared-slice-read-t12 c = search needs
+
+add-t8 : tie.Need-add-t8
+add-t8 c = search needs
+
+shared-slice-read-t14 : tie.Need-shared-slice-read-t14
+shared-slice-read-t14 c = search needs
+
+add-t15 : tie.Need-add-t15
+add-t15 c = search needs
+
+shared-slice-read-t17 : tie.Need-shared-slice-read-t17
+shared-slice-read-t17 c = search needs
+
+add-t18 : tie.Need-add-t18
+add-t18 c = search needs
+
+shared-slice-read-t20 : tie.Need-shared-slice-read-t20
+shared-slice-read-t20 c = search needs
+
+ed-fault-requires : tie.Need-ed-fault-requires
+ed-fault-requires c κs = search needs
+
+refuse-requires-2 : tie.Need-refuse-requires-2
+refuse-requires-2 c κs = search needs
+
+returns-2 : tie.Need-returns-2
+unfolding edgeFrom automatonOf
+returns-2 c =
+    let e = c .before .before in
+    reads-as (c .refuse2 .ensures) (sym (go _ _ (whole (reading e)) ∙ stop _ _ (sym (e .ed-fault .ensures) ∙ c .before .if2 .taken)))
+
+with-edge-requires : tie.Need-with-edge-requires
+with-edge-requires c κs = search needs
+
+returns-3 : tie.Need-returns-3
+unfolding edgeFrom automatonOf automatonAs
+returns-3 c =
+    let e = c .before .before in
+    let sound = go _ _ (whole (reading e)) ∙ go _ _ (sym (e .ed-fault .ensures) ∙ c .before .if2 .left) in
+    record { is = ap (λ (x : Automaton). proper x) (c .with-edge .ensures .0) ∙ sym sound; arrays = c .with-edge .ensures .1 .0 }
+
+pub read-edge-spec : {M : Type 1} → statement M
+read-edge-spec =
+    tie.close
+    (tie.spec
+    sub-if1
+    refuse-requires
+    returns
+    add-t7
+    shared-slice-read-t12
+    add-t8
+    shared-slice-read-t14
+    add-t15
+    shared-slice-read-t17
+    add-t18
+    shared-slice-read-t20
+    ed-fault-requires
+    refuse-requires-2
+    returns-2
+    with-edge-requires
+    returns-3)

@@ -1,0 +1,119 @@
+// The front of a sheet: AR and the PR records.
+ghost use mathlib.Core.Path.{_≡_};
+ghost use mathlib.Core.Bool.{false};
+ghost use mathlib.Core.List.{List, []};
+ghost use Prim.Native.Nat.{ℕ, _^_, _<_, _≤_};
+ghost use lib.ListN.{length};
+ghost use Rattle.model.specs.declared.Reply.{Reply};
+ghost use Rattle.model.specs.Reading.{refused, proper, arFault, readProcesses};
+ghost use Rattle.architecture.specs.Struct.{architectureOf};
+ghost use Rattle.sheet.specs.Struct.{FrontKnown, frontOf};
+ghost use Rattle.sheet.specs.Steps.{processFrom};
+use super::FrontRead;
+use super::PR;
+use super::faults::field_fault;
+use super::is_marked;
+use architecture::Architecture;
+use model::Refusal;
+use model::Reply;
+
+fn power(n: u8) -> u16
+    requires { ⌜ n ≤ 4 ⌝ }
+    ensures { λ r. ⌜ r ≡ 2 ^ n ⌝ }
+{
+    1 << n
+}
+
+fn wide(x: u8) -> u16
+    ensures { λ r. ⌜ r ≡ x ⌝ }
+{
+    x as u16
+}
+
+// AR, with no process yet: the record behind it begins at `end`.
+pub fn opened(variables: u8, environment: u8, root: u8, end: usize) -> FrontRead
+    requires { ⌜ arFault (record { variables = variables; environment = environment; root = root; processes = [] }) ≡ false ⌝ }
+    ensures { λ r. ⌜ frontOf r ≡ proper (record { architecture = record { variables = variables; environment = environment; root = root; processes = [] }; end = end }) ⌝ }
+    ensures { λ r. ⌜ ((b : List ℕ) → end ≤ length b → FrontKnown b r) ⌝ }
+{
+    let architecture = Architecture::opened(variables, environment, root);
+    FrontRead {
+        answer: Reply::Done,
+        architecture,
+        end,
+        owned: 0,
+        total: power(environment),
+    }
+}
+
+// The refusal, with what was read before it.
+pub fn refuse(refusal: Refusal, so_far: FrontRead) -> FrontRead
+    ensures { λ r. ⌜ frontOf r ≡ refused refusal ⌝ }
+    ensures { λ r. ⌜ ((b : List ℕ) → FrontKnown b «so_far» → FrontKnown b r) ⌝ }
+{
+    let architecture = so_far.architecture;
+    FrontRead {
+        answer: Reply::Refused(refusal),
+        architecture,
+        end: so_far.end,
+        owned: so_far.owned,
+        total: so_far.total,
+    }
+}
+
+// One PR more, behind those that were read.
+fn read_process(sheet: &[u8], so_far: FrontRead) -> FrontRead
+    requires { ⌜ FrontKnown (now sheet) «so_far» ⌝ }
+    requires { ⌜ «so_far» .architecture .processes < 4 ⌝ }
+    ensures { λ r. ⌜ frontOf r ≡ processFrom (architectureOf («so_far» .architecture)) (now (sheet .entry)) («so_far» .end) ⌝ }
+    ensures { λ r. ⌜ FrontKnown (now (sheet .entry)) r ⌝ }
+{
+    let at = so_far.end;
+    if sheet.len() - at < 5 {
+        return refuse(Refusal::SheetTooShort, so_far);
+    }
+    let inputs = sheet[at + 2];
+    let outputs = sheet[at + 3];
+    let bound = sheet[at + 4];
+    let architecture = so_far.architecture;
+    if field_fault(
+        architecture.variables,
+        architecture.environment,
+        inputs,
+        outputs,
+        bound,
+    ) {
+        return refuse(Refusal::BadProcess, so_far);
+    }
+    if outputs & so_far.owned != 0 {
+        return refuse(Refusal::BadProcess, so_far);
+    }
+    FrontRead {
+        answer: Reply::Done,
+        architecture: architecture.with_process(inputs, outputs, bound),
+        end: at + 5,
+        owned: so_far.owned | outputs,
+        total: so_far.total * wide(bound),
+    }
+}
+
+// The PR records behind AR.
+pub fn read_processes(sheet: &[u8], first: FrontRead) -> FrontRead
+    requires { ⌜ FrontKnown (now sheet) first ⌝ }
+    requires { ⌜ (first .answer ≡ Reply.Done) × (first .architecture .processes ≡ 0) ⌝ }
+    ensures { λ r. ⌜ frontOf r ≡ readProcesses 4 (architectureOf (first .architecture)) (now (sheet .entry)) (first .end) ⌝ }
+    ensures { λ r. ⌜ FrontKnown (now (sheet .entry)) r ⌝ }
+{
+    let mut read = first;
+    while read.architecture.processes < 4 {
+        if !is_marked(sheet, read.end, &PR) {
+            return read;
+        }
+        read = read_process(sheet, read);
+        let answer = read.answer;
+        if let Reply::Refused(_) = answer {
+            return read;
+        }
+    }
+    read
+}

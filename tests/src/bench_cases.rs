@@ -1,0 +1,207 @@
+//! The specification's bench cases: their sheets, and what some of them have as
+//! book, annotation and text.
+
+use crate::refusal::{Refusal, CUT_OFF, WRONG_COMPOSITION, WRONG_EDGE, WRONG_MARK, WRONG_PROCESS};
+use crate::run_graph::BLANK;
+use crate::sheet::{Edge, Process, Sheet};
+
+/// Case A as the specification lists it.
+pub const SHEET_A: [u8; 60] = [
+    0x41, 0x52, 0x04, 0x02, 0x00, 0x50, 0x52, 0x03, 0x0C, 0x02, 0x41, 0x55, 0x04, 0x00, 0x0E, 0x00,
+    0x45, 0x44, 0x00, 0x00, 0x00, 0x00, 0x45, 0x44, 0x00, 0x03, 0x0C, 0x00, 0x45, 0x44, 0x00, 0x01,
+    0x01, 0x00, 0x45, 0x44, 0x00, 0x02, 0x02, 0x00, 0x45, 0x44, 0x01, 0x01, 0x00, 0x04, 0x45, 0x44,
+    0x02, 0x02, 0x00, 0x08, 0x45, 0x44, 0x03, 0x03, 0x00, 0x00, 0x45, 0x4E,
+];
+
+/// A's book as the specification lists it.
+pub const BOOK_A: [u8; 20] = [
+    0x54, 0x42, 0x00, 0x00, 0x04, 0x01, 0x01, 0x01, 0x01, 0x54, 0x42, 0x00, 0x01, 0x08, 0x00, 0x00,
+    0x00, 0x00, 0x45, 0x4E,
+];
+
+/// The annotation of A's book, a line for each automaton state.
+pub const ANNOTATION_A: [u16; 32] = [
+    0, 0, 0, 0, 0, 0, 0, 0, //
+    2, 2, 2, 2, 1, 1, 1, 1, //
+    1, 1, 1, 1, 2, 2, 2, 2, //
+    BLANK, BLANK, BLANK, BLANK, BLANK, BLANK, BLANK, BLANK,
+];
+
+/// What the finding program prints for A.
+pub const TEXT_A: &str = "tables 2\n0 0 04 1 1 1 1\n0 1 08 0 0 0 0\ngreatest 2\n";
+
+/// Case D's tables that alternate, process 0 granting in state 0, 1 in state 1.
+pub const BOOK_D: [u8; 30] = *b"TB\x00\x00\x04\x01\x01TB\x00\x01\x00\x00\x00\
+    TB\x01\x00\x00\x01\x01TB\x01\x01\x08\x00\x00EN";
+
+/// What is printed for D: the first tables in order grant the other way round.
+pub const TEXT_D: &str = "tables 4\n0 0 00 1 1\n0 1 04 0 0\n1 0 08 1 1\n1 1 00 0 0\ngreatest 2\n";
+
+/// The only book of case E, and of those made from it with the same bound.
+pub const BOOK_E: [u8; 8] = *b"TB\x00\x00\x00\x00EN";
+
+/// A, field by field.
+pub fn case_a() -> Sheet {
+    Sheet {
+        variables: 4,
+        environment: 2,
+        processes: vec![Process::new(0x03, 0x0C, 2)],
+        states: 4,
+        rejecting: 0x000E,
+        edges: vec![
+            Edge::new(0, 0, 0x00, 0x00),
+            Edge::new(0, 3, 0x0C, 0x00),
+            Edge::new(0, 1, 0x01, 0x00),
+            Edge::new(0, 2, 0x02, 0x00),
+            Edge::new(1, 1, 0x00, 0x04),
+            Edge::new(2, 2, 0x00, 0x08),
+            Edge::new(3, 3, 0x00, 0x00),
+        ],
+        ..Sheet::default()
+    }
+}
+
+/// A with another bound.
+fn case_a_with_bound(bound: u8) -> Sheet {
+    Sheet {
+        processes: vec![Process::new(0x03, 0x0C, bound)],
+        ..case_a()
+    }
+}
+
+/// A with bound 1.
+pub fn case_b() -> Sheet {
+    case_a_with_bound(1)
+}
+
+/// A's automaton over two processes.
+pub fn case_c(first: u8, second: u8) -> Sheet {
+    Sheet {
+        processes: vec![
+            Process::new(0x01, 0x04, first),
+            Process::new(0x02, 0x08, second),
+        ],
+        ..case_a()
+    }
+}
+
+/// C with bounds 2 and 2.
+pub fn case_d() -> Sheet {
+    case_c(2, 2)
+}
+
+/// No variables, one automaton state and no edges.
+pub fn case_e() -> Sheet {
+    Sheet {
+        processes: vec![Process::new(0, 0, 1)],
+        states: 1,
+        ..Sheet::default()
+    }
+}
+
+/// E with state 0 rejecting and an edge from it to itself.
+pub fn case_f(bound: u8) -> Sheet {
+    Sheet {
+        processes: vec![Process::new(0, 0, bound)],
+        edges: vec![Edge::new(0, 0, 0, 0)],
+        ..case_g()
+    }
+}
+
+/// E with state 0 rejecting.
+pub fn case_g() -> Sheet {
+    Sheet {
+        rejecting: 1,
+        ..case_e()
+    }
+}
+
+/// E with states 0 and 1 and an edge between them.
+pub fn case_h(rejecting: u16) -> Sheet {
+    Sheet {
+        states: 2,
+        rejecting,
+        edges: vec![Edge::new(0, 1, 0, 0)],
+        ..case_e()
+    }
+}
+
+/// H with only state 0 rejecting, and with only state 1.
+pub const REJECTING_0: u16 = 0b01;
+pub const REJECTING_1: u16 = 0b10;
+
+/// Four environment variables and bounds 4 and 4: T is 256.
+pub fn case_j() -> Sheet {
+    Sheet {
+        variables: 4,
+        environment: 4,
+        processes: vec![Process::new(0, 0, 4); 2],
+        ..case_e()
+    }
+}
+
+/// The cases that are proper sheets, each with a name.
+pub fn proper_cases() -> Vec<(&'static str, Sheet)> {
+    vec![
+        ("case A", case_a()),
+        ("case B", case_b()),
+        ("case C, bounds 1 and 1", case_c(1, 1)),
+        ("case C, bounds 2 and 1", case_c(2, 1)),
+        ("case C, bounds 1 and 2", case_c(1, 2)),
+        ("case D", case_d()),
+        ("case E", case_e()),
+        ("case F, bound 1", case_f(1)),
+        ("case F, bound 4", case_f(4)),
+        ("case G", case_g()),
+        ("case H, 0 rejecting", case_h(REJECTING_0)),
+        ("case H, 1 rejecting", case_h(REJECTING_1)),
+        ("case J", case_j()),
+    ]
+}
+
+/// A file that is refused, with a name.
+pub type RefusedCase = (&'static str, Vec<u8>, Refusal);
+
+/// The cases that are refused.
+pub fn refused_cases() -> Vec<RefusedCase> {
+    let mut cases = cases_i();
+    cases.push((
+        "case J, a third process",
+        case_j_and_third().bytes(),
+        WRONG_COMPOSITION,
+    ));
+    for bound in [0, 5] {
+        let sheet = case_a_with_bound(bound);
+        cases.push(("case K, bound", sheet.bytes(), WRONG_PROCESS));
+    }
+    let shared = case_k_shared_bit().bytes();
+    cases.push(("case K, shared bit", shared, WRONG_EDGE));
+    cases
+}
+
+/// Nothing, the byte 41, and A with one more byte, whichever it is.
+fn cases_i() -> Vec<RefusedCase> {
+    let mut cases = vec![
+        ("case I, empty", Vec::new(), CUT_OFF),
+        ("case I, 41", vec![0x41], CUT_OFF),
+    ];
+    cases.extend((0..=255).map(|byte| {
+        let longer = [&SHEET_A[..], &[byte]].concat();
+        ("case I, one more byte", longer, WRONG_MARK)
+    }));
+    cases
+}
+
+/// J with a third process, of bound 2.
+fn case_j_and_third() -> Sheet {
+    let mut sheet = case_j();
+    sheet.processes.push(Process::new(0, 0, 2));
+    sheet
+}
+
+/// A with an edge whose masks share a bit.
+fn case_k_shared_bit() -> Sheet {
+    let mut sheet = case_a();
+    sheet.edges[0] = Edge::new(0, 0, 0x01, 0x01);
+    sheet
+}

@@ -1,0 +1,195 @@
+//! Times annotating on the largest run graphs, by the library and by the
+//! independent run graph; then finding, by the library and by plain enumeration
+//! made for speed. Asserts that they agree, and nothing about time.
+
+use std::hint::black_box;
+use std::time::{Duration, Instant};
+
+use soclethyme_tests::bench_cases::{case_c, proper_cases};
+use soclethyme_tests::book::LONGEST_BOOK;
+use soclethyme_tests::choices::{choice_count, FoundChoice};
+use soclethyme_tests::fast_enumeration;
+use soclethyme_tests::ffi::{self, finding_number, NEGATIVE, POSITIVE};
+use soclethyme_tests::joint_counter::JointCounter;
+use soclethyme_tests::many_choices::{opening, relay, three_clients};
+use soclethyme_tests::proper_sheet::{ProperSheet, SheetAndBook};
+use soclethyme_tests::random_books;
+use soclethyme_tests::rejecting_loops;
+use soclethyme_tests::rng::Rng;
+use soclethyme_tests::run_graph::{self, BLANK};
+use soclethyme_tests::sheet::{Sheet, MOST_EDGES, MOST_VERTICES};
+
+const SEED: u64 = 0x5EED_0004;
+
+/// Each measurement goes on for this long, and for three calls at least.
+const SPAN: Duration = Duration::from_millis(300);
+
+/// What is annotated, with a name.
+struct NamedBook {
+    name: String,
+    input: SheetAndBook,
+}
+
+/// A random sheet with 64 edges, and a book for it.
+fn random_book(rng: &mut Rng) -> SheetAndBook {
+    let mut sheet = rejecting_loops::largest(rng);
+    if rng.one_in(2) {
+        sheet.rejecting &= 0xFF00;
+        rejecting_loops::exclude_rejecting_loops(rng, &mut sheet);
+        sheet.initial = 0;
+    }
+    // Edges that it lost are made up for by repeated ones, which change no
+    // vertex.
+    while sheet.edges.len() < MOST_EDGES {
+        let repeated = *rng.pick(&sheet.edges);
+        sheet.edges.push(repeated);
+    }
+    random_books::with_book(rng, sheet)
+}
+
+/// Whether a rejecting loop is reachable; none if there is no loop and few
+/// vertices are reached.
+fn loops(input: &SheetAndBook) -> Option<bool> {
+    let mut buffer = vec![0; MOST_VERTICES];
+    let annotated = run_graph::annotate(&input.proper.bytes, &input.book, &mut buffer);
+    let loops = annotated == Ok(false);
+    let reached = buffer.iter().filter(|number| **number != BLANK);
+    (loops || reached.count() >= MOST_VERTICES / 2).then_some(loops)
+}
+
+/// Three that loop and three that do not.
+fn random_books() -> Vec<NamedBook> {
+    let mut rng = Rng::new(SEED);
+    let mut found = [0; 2];
+    let mut all = Vec::new();
+    while found != [3; 2] {
+        let input = random_book(&mut rng);
+        let Some(loops) = loops(&input).filter(|loops| found[*loops as usize] < 3) else {
+            continue;
+        };
+        found[loops as usize] += 1;
+        let kind = if loops { "loops" } else { "no loop" };
+        let name = format!("random {}, {kind}", found[loops as usize]);
+        all.push(NamedBook { name, input });
+    }
+    all
+}
+
+/// Sheets on which numbers rise as high as they can.
+fn counter_books() -> Vec<NamedBook> {
+    let mut all = Vec::new();
+    for (order, falling) in [("rising", false), ("falling", true)] {
+        let named = [
+            ("13 rounds", JointCounter::longest(falling)),
+            ("12 rounds, closed", JointCounter::longest_closed(falling)),
+            (
+                "16 rounds, 16 directions",
+                JointCounter::widest(falling, false),
+            ),
+        ];
+        all.extend(named.map(|(name, counter)| NamedBook {
+            name: format!("{order} counter, {name}"),
+            input: counter.with_book(),
+        }));
+    }
+    all
+}
+
+/// Microseconds per call, the buffer kept as the call before left it.
+fn time(buffer: &mut [u16], mut call: impl FnMut(&mut [u16]) -> u32) -> f64 {
+    black_box(call(buffer));
+    let start = Instant::now();
+    let mut calls = 0;
+    while calls < 3 || start.elapsed() < SPAN {
+        black_box(call(black_box(&mut *buffer)));
+        calls += 1;
+    }
+    start.elapsed().as_secs_f64() * 1e6 / f64::from(calls)
+}
+
+fn print_times(name: &str, size: u64, answer: u32, library: f64, other: f64) {
+    let ratio = library / other;
+    println!("{name:<42} {size:>8} {answer:>6} {library:>14.1} {other:>14.1} {ratio:>8.5}");
+}
+
+fn measure_annotate(named: &NamedBook) {
+    let (sheet, book) = (&named.input.proper.bytes, &named.input.book);
+    let by_library = |buffer: &mut [u16]| ffi::annotate(sheet, book, buffer);
+    let by_graph = |buffer: &mut [u16]| finding_number(run_graph::annotate(sheet, book, buffer));
+
+    let mut library_buffer = vec![0; MOST_VERTICES];
+    let mut graph_buffer = vec![0; MOST_VERTICES];
+    let answer = by_library(&mut library_buffer);
+    assert_eq!(answer, by_graph(&mut graph_buffer));
+    assert_eq!(library_buffer, graph_buffer);
+    if answer == POSITIVE {
+        assert_eq!(ffi::judge(sheet, book, &library_buffer), POSITIVE);
+    }
+
+    let library = time(&mut library_buffer, by_library);
+    let graph = time(&mut graph_buffer, by_graph);
+    print_times(&named.name, MOST_VERTICES as u64, answer, library, graph);
+}
+
+/// The specification's cases, and sheets with ten million choices and more: one
+/// found after a quarter of them, two with none, one found close to the end.
+fn sheets_to_search() -> Vec<(&'static str, Sheet)> {
+    let mut all = proper_cases();
+    all.push(("case C, bounds 3 and 3", case_c(3, 3)));
+    all.push(("three clients, bounds 3 and 2", three_clients(3, 2)));
+    all.push(("relay, bounds 3 and 3", relay(3, 3)));
+    all.push(("opening, bound 3", opening(3)));
+    all
+}
+
+/// What a call gives, and microseconds per call. A long one is made only once.
+fn repeat<T>(mut call: impl FnMut() -> T) -> (T, f64) {
+    let start = Instant::now();
+    let mut calls = 0;
+    loop {
+        let given = black_box(call());
+        calls += 1;
+        let elapsed = start.elapsed();
+        if elapsed >= SPAN {
+            return (given, elapsed.as_secs_f64() * 1e6 / f64::from(calls));
+        }
+    }
+}
+
+fn assert_found(found: &FoundChoice, book: &[u8], annotation: &[u16]) {
+    assert!(book.starts_with(&found.book));
+    assert!(annotation.starts_with(&found.annotation));
+}
+
+fn measure_find(name: &str, sheet: Sheet) {
+    let proper = ProperSheet::new(sheet);
+    let mut book = [0; LONGEST_BOOK];
+    let mut annotation = [0; MOST_VERTICES];
+    let find = || ffi::find(&proper.bytes, &mut book, &mut annotation);
+    let (answer, library) = repeat(find);
+    let (found, enumeration) = repeat(|| fast_enumeration::first_choice(&proper));
+    let expected = if found.is_some() { POSITIVE } else { NEGATIVE };
+    assert_eq!(answer, expected, "{name}");
+    if let Some(found) = found {
+        assert_found(&found, &book, &annotation);
+    }
+    let choices = choice_count(&proper.sheet);
+    print_times(name, choices, answer, library, enumeration);
+}
+
+fn print_heading(call: &str, size: &str, other: &str) {
+    let (answer, library, ratio) = ("answer", "library us", "ratio");
+    println!("{call:<42} {size:>8} {answer:>6} {library:>14} {other:>14} {ratio:>8}");
+}
+
+fn main() {
+    print_heading("annotate", "vertices", "independent us");
+    for named in random_books().iter().chain(&counter_books()) {
+        measure_annotate(named);
+    }
+    println!();
+    print_heading("find", "choices", "enumeration us");
+    for (name, sheet) in sheets_to_search() {
+        measure_find(name, sheet);
+    }
+}

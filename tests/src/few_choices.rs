@@ -1,0 +1,160 @@
+//! Random sheets with so few choices that all of them can be tried.
+
+use crate::choices::choice_count;
+use crate::random_sheets::{self, shapes, Shape};
+use crate::rejecting_loops;
+use crate::rng::Rng;
+use crate::sheet::{mask_below, variables_of, Edge, Sheet, MOST_STATES};
+
+/// A proper sheet with at most that many choices.
+pub fn sheet(rng: &mut Rng, most: u64) -> Sheet {
+    let shape = shape(rng);
+    let mut sheet = if rng.one_in(5) {
+        rejecting_loops::sheet_of_shape(rng, shape)
+    } else {
+        let mut sheet = random_sheets::proper_of_shape(rng, shape);
+        set_requirements(rng, &mut sheet);
+        sheet
+    };
+    while choice_count(&sheet) > most {
+        shrink(rng, &mut sheet);
+    }
+    sheet
+}
+
+/// The fewer of two drawn, since many outputs leave few states for each.
+fn shape(rng: &mut Rng) -> Shape {
+    let shapes = shapes();
+    let drawn = [*rng.pick(&shapes), *rng.pick(&shapes)];
+    let [one, other] = drawn;
+    if one.variables + one.processes < other.variables + other.processes {
+        one
+    } else {
+        other
+    }
+}
+
+/// One state or one input less in some process.
+fn shrink(rng: &mut Rng, sheet: &mut Sheet) {
+    let index = rng.below(sheet.processes.len());
+    let process = &mut sheet.processes[index];
+    let inputs = variables_of(process.inputs);
+    if inputs.is_empty() || rng.one_in(3) {
+        process.bound = (process.bound - 1).max(1);
+    } else {
+        process.inputs ^= 1 << rng.pick(&inputs);
+    }
+}
+
+/// The automaton state that waits for causes, and the one that is never left
+/// again.
+const WAITING: u8 = 0;
+const VIOLATED: u8 = 1;
+
+/// Gives the sheet an automaton with a few requirements, so that not every
+/// choice keeps it and yet some choice often does.
+fn set_requirements(rng: &mut Rng, sheet: &mut Sheet) {
+    sheet.states = 2;
+    sheet.initial = WAITING;
+    sheet.rejecting = 1 << VIOLATED;
+    sheet.edges.clear();
+    add_edge(sheet, WAITING, WAITING, ANY_LABEL);
+    add_edge(sheet, VIOLATED, VIOLATED, ANY_LABEL);
+    for _ in 0..rng.within(1, 4) {
+        match rng.below(7) {
+            0..=2 => require_response(rng, sheet),
+            3..=4 => forbid_in(rng, sheet, WAITING),
+            5 => forbid_after_cause(rng, sheet),
+            _ => forbid_initially(rng, sheet),
+        }
+    }
+    if rng.one_in(4) {
+        let edge = random_sheets::edge(rng, sheet);
+        sheet.edges.push(edge);
+    }
+    if rng.one_in(8) {
+        sheet.states = rng.within(sheet.states as usize, MOST_STATES) as u8;
+    }
+    renumber(rng, sheet);
+}
+
+/// Whenever there is a cause, some output comes to be on, or off.
+fn require_response(rng: &mut Rng, sheet: &mut Sheet) {
+    let pending = add_state(sheet);
+    sheet.rejecting |= 1 << pending;
+    let causes = rng.below(3);
+    let cause = edge_masks(rng, sheet, causes, 0);
+    add_edge(sheet, WAITING, pending, cause);
+    let lack = edge_masks(rng, sheet, 0, 1);
+    add_edge(sheet, pending, pending, lack);
+}
+
+/// In this state some values are forbidden, those of outputs among them.
+fn forbid_in(rng: &mut Rng, sheet: &mut Sheet, state: u8) {
+    let (others, outputs) = (rng.below(2), rng.within(1, 2));
+    let forbidden = edge_masks(rng, sheet, others, outputs);
+    add_edge(sheet, state, VIOLATED, forbidden);
+}
+
+/// One step after a cause some values are forbidden.
+fn forbid_after_cause(rng: &mut Rng, sheet: &mut Sheet) {
+    let after = add_state(sheet);
+    let causes = rng.within(1, 2);
+    let cause = edge_masks(rng, sheet, causes, 0);
+    add_edge(sheet, WAITING, after, cause);
+    forbid_in(rng, sheet, after);
+}
+
+/// At the very start some values are forbidden.
+fn forbid_initially(rng: &mut Rng, sheet: &mut Sheet) {
+    if sheet.initial == WAITING {
+        sheet.initial = add_state(sheet);
+        add_edge(sheet, sheet.initial, WAITING, ANY_LABEL);
+    }
+    forbid_in(rng, sheet, sheet.initial);
+}
+
+fn add_state(sheet: &mut Sheet) -> u8 {
+    sheet.states += 1;
+    sheet.states - 1
+}
+
+/// The on and the off mask of an edge.
+type EdgeMasks = (u8, u8);
+
+/// Met by all labels.
+const ANY_LABEL: EdgeMasks = (0, 0);
+
+/// Masks in which so many variables of any kind, and so many outputs, have
+/// values drawn for them: more often off, so that tables of zeros often fail.
+fn edge_masks(rng: &mut Rng, sheet: &Sheet, any: usize, outputs: usize) -> EdgeMasks {
+    let (mut on, mut off) = ANY_LABEL;
+    for (count, among) in [(any, mask_below(sheet.variables)), (outputs, sheet.owned())] {
+        let mut free = variables_of(among & !(on | off));
+        rng.shuffle(&mut free);
+        free.truncate(count);
+        for variable in free {
+            let mask = if rng.one_in(3) { &mut on } else { &mut off };
+            *mask |= 1 << variable;
+        }
+    }
+    (on, off)
+}
+
+fn add_edge(sheet: &mut Sheet, from: u8, to: u8, (on, off): EdgeMasks) {
+    sheet.edges.push(Edge::new(from, to, on, off));
+}
+
+/// Gives the automaton states other numbers, and shuffles the edges.
+fn renumber(rng: &mut Rng, sheet: &mut Sheet) {
+    let mut numbers: Vec<u8> = (0..sheet.states).collect();
+    rng.shuffle(&mut numbers);
+    let number = |state: u8| numbers[state as usize];
+    for edge in &mut sheet.edges {
+        (edge.from, edge.to) = (number(edge.from), number(edge.to));
+    }
+    rng.shuffle(&mut sheet.edges);
+    sheet.initial = number(sheet.initial);
+    let rejecting = (0..sheet.states).filter(|state| sheet.is_rejecting(*state));
+    sheet.rejecting = rejecting.fold(0, |mask, state| mask | 1 << number(state));
+}

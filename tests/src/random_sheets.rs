@@ -1,0 +1,242 @@
+//! Random proper sheets of every shape.
+
+use crate::rng::Rng;
+use crate::sheet::{
+    mask_below, mask_of, variables_of, Edge, Process, Sheet, MOST_BOUND, MOST_COMPOSED, MOST_EDGES,
+    MOST_ENVIRONMENT, MOST_INPUTS, MOST_PROCESSES, MOST_STATES, MOST_VARIABLES,
+};
+
+/// The counts that a sheet's architecture begins with.
+#[derive(Clone, Copy, Debug, PartialEq, Eq, PartialOrd, Ord)]
+pub struct Shape {
+    pub variables: usize,
+    pub environment: usize,
+    pub processes: usize,
+}
+
+impl Shape {
+    pub fn of(sheet: &Sheet) -> Self {
+        Shape {
+            variables: sheet.variables as usize,
+            environment: sheet.environment as usize,
+            processes: sheet.processes.len(),
+        }
+    }
+
+    /// Its counts as the digits of a number.
+    pub fn digits(&self) -> usize {
+        self.variables * 100 + self.environment * 10 + self.processes
+    }
+}
+
+/// Every shape that a proper sheet can have.
+pub fn shapes() -> Vec<Shape> {
+    let mut shapes = Vec::new();
+    for variables in 0..=MOST_VARIABLES {
+        for environment in 0..=variables.min(MOST_ENVIRONMENT) {
+            shapes.extend((1..=MOST_PROCESSES).map(|processes| Shape {
+                variables,
+                environment,
+                processes,
+            }));
+        }
+    }
+    shapes
+}
+
+/// One of the shapes that fit.
+pub fn any_shape(rng: &mut Rng, fits: impl Fn(&Shape) -> bool) -> Shape {
+    let mut shapes = shapes();
+    shapes.retain(fits);
+    *rng.pick(&shapes)
+}
+
+/// A proper sheet of any shape.
+pub fn proper(rng: &mut Rng) -> Sheet {
+    let shape = any_shape(rng, |_| true);
+    proper_of_shape(rng, shape)
+}
+
+/// A proper sheet with few edges, for work that is done at each of its bytes.
+pub fn with_few_edges(rng: &mut Rng, shape: Shape) -> Sheet {
+    let mut sheet = proper_of_shape(rng, shape);
+    sheet.edges.truncate(3);
+    sheet
+}
+
+/// A proper sheet with all records that a sheet can have: 417 bytes.
+pub fn with_all_records(rng: &mut Rng) -> Sheet {
+    let shape = any_shape(rng, |shape| shape.processes == MOST_PROCESSES);
+    let mut sheet = proper_of_shape(rng, shape);
+    sheet.edges.clear();
+    add_edges(rng, &mut sheet, MOST_EDGES);
+    sheet
+}
+
+/// A proper sheet whose book is the longest: four inputs and four states in
+/// each of four processes.
+pub fn with_longest_book(rng: &mut Rng) -> Sheet {
+    let mut sheet = Sheet {
+        variables: MOST_VARIABLES as u8,
+        ..Sheet::default()
+    };
+    let mut variables = variables_of(mask_below(sheet.variables));
+    rng.shuffle(&mut variables);
+    for pair in variables.chunks(2) {
+        let outputs = 1 << pair[0] | 1 << pair[1];
+        let mut others = variables_of(!outputs);
+        rng.shuffle(&mut others);
+        let inputs = mask_of(&others[..MOST_INPUTS as usize]);
+        let bound = MOST_BOUND as u8;
+        sheet.processes.push(Process::new(inputs, outputs, bound));
+    }
+    add_automaton(rng, &mut sheet);
+    sheet
+}
+
+pub fn proper_of_shape(rng: &mut Rng, shape: Shape) -> Sheet {
+    let variables = shape.variables as u8;
+    let environment = shape.environment as u8;
+    let mut sheet = Sheet {
+        variables,
+        environment,
+        root: submask(rng, mask_below(environment)),
+        processes: processes(rng, shape),
+        ..Sheet::default()
+    };
+    add_automaton(rng, &mut sheet);
+    let count = edge_count(rng);
+    add_edges(rng, &mut sheet, count);
+    sheet
+}
+
+/// Part of a mask; none and all of it come up often.
+fn submask(rng: &mut Rng, mask: u8) -> u8 {
+    match rng.below(6) {
+        0 => 0,
+        1 => mask,
+        _ => rng.byte() & mask,
+    }
+}
+
+fn processes(rng: &mut Rng, shape: Shape) -> Vec<Process> {
+    let outputs = outputs(rng, shape);
+    let bounds = bounds(rng, shape);
+    let all = mask_below(shape.variables as u8);
+    let mut processes = Vec::new();
+    for (outputs, bound) in outputs.into_iter().zip(bounds) {
+        let inputs = inputs(rng, all & !outputs);
+        processes.push(Process::new(inputs, outputs, bound));
+    }
+    processes
+}
+
+/// Deals the variables beyond the environment out to the processes.
+fn outputs(rng: &mut Rng, shape: Shape) -> Vec<u8> {
+    let mut outputs = vec![0; shape.processes];
+    let only = rng.below(shape.processes);
+    let to_one = rng.one_in(6);
+    for variable in shape.environment..shape.variables {
+        let owner = if to_one {
+            only
+        } else {
+            rng.below(shape.processes)
+        };
+        outputs[owner] |= 1 << variable;
+    }
+    outputs
+}
+
+/// At most four inputs among those allowed; none and four come up often.
+fn inputs(rng: &mut Rng, allowed: u8) -> u8 {
+    let mut free = variables_of(allowed);
+    rng.shuffle(&mut free);
+    let most = free.len().min(MOST_INPUTS as usize);
+    let count = match rng.below(4) {
+        0 => most,
+        1 => 0,
+        _ => rng.within(0, most),
+    };
+    mask_of(&free[..count])
+}
+
+/// Bounds that keep T within its limit, and often meet it.
+fn bounds(rng: &mut Rng, shape: Shape) -> Vec<u8> {
+    let mut room = MOST_COMPOSED >> shape.environment;
+    let mut order: Vec<usize> = (0..shape.processes).collect();
+    rng.shuffle(&mut order);
+    let style = rng.below(5);
+    let mut bounds = vec![1; shape.processes];
+    for index in order {
+        let wanted = match style {
+            0 => 1,
+            1 => MOST_BOUND,
+            _ => rng.within(1, MOST_BOUND),
+        };
+        let bound = wanted.min(room);
+        room /= bound;
+        bounds[index] = bound as u8;
+    }
+    bounds
+}
+
+fn add_automaton(rng: &mut Rng, sheet: &mut Sheet) {
+    let states = match rng.below(6) {
+        0 => 1,
+        1 => MOST_STATES,
+        _ => rng.within(1, MOST_STATES),
+    };
+    let initial = match rng.below(4) {
+        0 => 0,
+        1 => states - 1,
+        _ => rng.below(states),
+    };
+    let all = ((1u32 << states) - 1) as u16;
+    sheet.states = states as u8;
+    sheet.initial = initial as u8;
+    sheet.rejecting = match rng.below(5) {
+        0 => 0,
+        1 => all,
+        _ => rng.draw() as u16 & all,
+    };
+}
+
+fn edge_count(rng: &mut Rng) -> usize {
+    match rng.below(20) {
+        0 => 0,
+        1 => MOST_EDGES,
+        2 | 3 => rng.within(0, MOST_EDGES),
+        _ => rng.within(0, 8),
+    }
+}
+
+/// Adds edges until there are so many.
+pub fn add_edges(rng: &mut Rng, sheet: &mut Sheet, count: usize) {
+    while sheet.edges.len() < count {
+        let edge = edge(rng, sheet);
+        sheet.edges.push(edge);
+    }
+}
+
+/// An edge that the sheet's variables and automaton states permit.
+pub fn edge(rng: &mut Rng, sheet: &Sheet) -> Edge {
+    let all = mask_below(sheet.variables);
+    let on = submask(rng, all);
+    let off = submask(rng, all & !on);
+    let (on, off) = if rng.one_in(2) { (on, off) } else { (off, on) };
+    Edge {
+        from: state(rng, sheet.states),
+        to: state(rng, sheet.states),
+        on,
+        off,
+    }
+}
+
+/// An automaton state; the first and the last come up often.
+fn state(rng: &mut Rng, states: u8) -> u8 {
+    match rng.below(6) {
+        0 => 0,
+        1 => states - 1,
+        _ => rng.below(states as usize) as u8,
+    }
+}
