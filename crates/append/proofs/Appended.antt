@@ -1,4 +1,4 @@
--- Laws of what was appended: one element, one list behind another, and the whole list.
+-- Laws of what was appended: nothing, one element, one list behind another, and the whole list.
 use mathlib.Core.Path.{_≡_, refl, sym, ap, ap₂, _∙_}
 use mathlib.Core.List.{List, [], _∷_, _++_, append-assoc, append-nil}
 use Prim.Native.Nat.{ℕ, _+_, _<_, _≤_}

@@ -30,11 +30,12 @@ module _ {l m all due : List ℕ} {start at : ℕ} (p : Appending l start all at
     whole = p .whole ∙ rw (o .is) (sym (append-assoc (p .done) new rest));
   }
 
-  -- all that is due has its place
+  -- what is due ends where all does
   appending-ends : at + length due ≡ start + length all
   appending-ends = omega (arith, p .so-far .ends, ap length (p .whole), length-append (p .done) due)
 
   module _ (room : start + length all ≤ length l) where
+    -- the length stays
     pub appending-length : length m ≡ length l
     appending-length = append-length (p .so-far) (omega (arith, appending-ends))
 
@@ -46,12 +47,12 @@ module _ {l m all due : List ℕ} {start at : ℕ} (p : Appending l start all at
 pub appending-all : {l m all : List ℕ} {start at : ℕ} → Appending l start all at m [] → Appends l start all at m
 appending-all p = rw (p .whole ∙ append-nil (p .done)) (p .so-far)
 
--- ---- codes of a list
--- in two parts
+-- ---- codes of the elements of a list
+-- of two lists
 pub opens-codes : {A : Type 0} (code : A → ℕ) (xs ys : List A) → Opens (map code (xs ++ ys)) (map code xs) (map code ys)
 opens-codes code xs ys = record { is = map-append code xs ys }
 
--- the same element n times
+-- of the same element n times
 pub codes-same : {A : Type 0} (code : A → ℕ) (n : ℕ) (a : A) → map code (replicate n a) ≡ replicate n (code a)
 codes-same code zero a = refl
 codes-same code (suc n) a = ap (λ (l : List ℕ). code a ∷ l) (codes-same code n a)

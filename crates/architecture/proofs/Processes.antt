@@ -14,7 +14,7 @@ use Rattle.model.specs.Sheet.{Process, composedStates, ProperProcess}
 use Rattle.model.specs.Compose.{rowLength, processLength, rowAt}
 use Rattle.model.specs.Choice.{row, times, rows, entries}
 use Rattle.model.proofs.FitsTest.{row-length}
-use Rattle.model.proofs.Compose.{times-length}
+use Rattle.model.proofs.ComposedNumbers.{times-length}
 use Rattle.architecture.specs.declared.Architecture.{Architecture}
 use Rattle.architecture.specs.Struct.{processOf, processesOf, processIn, firstIn, processesIn, architectureOf, IsProper, entriesOf}
 

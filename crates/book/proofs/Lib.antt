@@ -1,4 +1,4 @@
 -- the laws that the proofs of the functions cite
-pub mod Slots
-pub mod Answers
-pub mod Bounds
+pub mod OneSlotMore
+pub mod ReadingAnswers
+pub mod PartWithin

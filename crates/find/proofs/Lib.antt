@@ -1,3 +1,3 @@
 -- the laws that the proofs of the functions cite
-pub mod Found
+pub mod FoundBuffers
 pub mod WholeFile

@@ -1,4 +1,4 @@
--- The program reads the first 418 bytes of a file: what it prints for them is the text for the whole file. Assumes nothing.
+-- The program reads the first 418 bytes of a file: what it prints for them is the text for the whole file.
 use mathlib.Core.Path.{_≡_, ap}
 use mathlib.Core.List.{List}
 use Prim.Native.Nat.{ℕ}

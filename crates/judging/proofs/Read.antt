@@ -12,7 +12,7 @@ use Rattle.model.specs.Calls.{AfterRead, tablesOf, gave}
 use Rattle.model.proofs.DemandTwo.{read-right}
 use Rattle.book.specs.declared.TablesRead.{TablesRead}
 use Rattle.book.specs.Answers.{afterRead}
-use Rattle.book.proofs.Answers.{gave-refused, gave-done}
+use Rattle.book.proofs.ReadingAnswers.{gave-refused, gave-done}
 use Rattle.graph.proofs.Chosen.{chosen-tables}
 
 -- the choice of the book is at the front of the tables

@@ -21,8 +21,8 @@ use Rattle.model.specs.Choice.{IsChoice}
 use Rattle.model.specs.RunGraph.{vertices, automatonState, rejects, Keeps, blank}
 use Rattle.model.specs.Computed.{runGraph, annotation}
 use Rattle.model.specs.Demands.{Annotates}
-use Rattle.model.proofs.Compose.{T-pos}
-use Rattle.model.proofs.Loops.{most-entries, blank-elsewhere, few-entries}
+use Rattle.model.proofs.ComposedNumbers.{T-pos}
+use Rattle.model.proofs.ComputedTests.{most-rejections, blank-elsewhere, few-rejections}
 
 -- ---- its length
 annotation-length : (s : Sheet) (c : List ℕ) → length (annotation s c) ≡ vertices s
@@ -88,7 +88,7 @@ rejecting-few s c good =
 pub annotates : (s : Sheet) (c : List ℕ) → ProperSheet s → IsChoice (s .architecture) c → Keeps s c → Annotates s c (annotation s c)
 annotates s c good choice kept = record {
   whole = annotation-length s c;
-  most = most-entries s c good choice kept;
+  most = most-rejections s c good choice kept;
   others = blank-elsewhere s c good choice kept;
-  bounded = λ v r. omega (arith, few-entries s c good choice kept v r, rejecting-few s c good);
+  bounded = λ v r. omega (arith, few-rejections s c good choice kept v r, rejecting-few s c good);
 }

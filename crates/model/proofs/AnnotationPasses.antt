@@ -16,8 +16,8 @@ use Rattle.model.specs.Choice.{IsChoice}
 use Rattle.model.specs.RunGraph.{vertices, Keeps, blank, Valid}
 use Rattle.model.specs.Computed.{runGraph, annotation, valid}
 use Rattle.model.specs.Calls.{front}
-use Rattle.model.proofs.RunGraph.{start-lt, step-lt, graph-finite}
-use Rattle.model.proofs.Loops.{loop-from, valid-exactly}
+use Rattle.model.proofs.RunGraphSteps.{start-lt, step-lt, graph-finite}
+use Rattle.model.proofs.ComputedTests.{loop-from, valid-exactly}
 use Rattle.model.proofs.AnnotationExact.{annotates}
 
 -- ---- the numbers stay below blank

@@ -16,9 +16,12 @@ use Rattle.model.specs.declared.Outcome.{Outcome}
 use Rattle.model.specs.Numbers.{number}
 use Rattle.model.specs.Mask.{if}
 use Rattle.model.specs.Sheet.{Architecture, Sheet, withProcess}
-use Rattle.model.specs.Reading.{Reading, refused, proper, byte, short, marked, EN, ED, AU, PR, AR, arFault, prFault, allFault, auFault, edFault, architectureAt, processAt, edgeAt, readEnd, readEdge, readEdges, readAutomaton, readProcess, readProcesses, readFront, readSheet, refuse_when_else_, _then_}
+use Rattle.model.specs.Reading.{Reading, refused, proper, byte, short, marked, EN, ED, AU, PR}
+use Rattle.model.specs.Reading.{AR, arFault, prFault, allFault, auFault, edFault, architectureAt, processAt, edgeAt, readEnd}
+use Rattle.model.specs.Reading.{readEdge, readEdges, readAutomaton, readProcess, readProcesses, readFront, readSheet, refuse_when_else_, _then_}
 use Rattle.model.specs.Computed.{loops, firstChoice}
-use Rattle.model.specs.Calls.{Chosen, reply, checkOf, findSheet, findChoice, findIn, findOf, bookAndRoom, annotatedBy, annotated, annotateOf, written, wrote, writeOf, partArchitecture, cut, partOf, part}
+use Rattle.model.specs.Calls.{Chosen, reply, checkOf, findSheet, findChoice, findIn, findOf, bookAndRoom, annotatedBy}
+use Rattle.model.specs.Calls.{annotated, annotateOf, written, wrote, writeOf, partArchitecture, cut, partOf, part}
 use Rattle.model.specs.Demands.{demand-1}
 
 -- ---- 1 to 7

@@ -21,7 +21,7 @@ use Rattle.model.specs.Book.{form, bookLength, bookOf, readBook}
 use Rattle.model.specs.Calls.{front, bookShort, annotationShort, AfterFind, findSheet, findChoice, findIn, findOf, judgeOf, AfterAnnotate, annotateOf, roomToFind}
 use Rattle.model.specs.Demands.{Annotates, First, bookFound, demand-3}
 use Rattle.model.proofs.ProperSheet.{passes, goes-on, sheet-proper}
-use Rattle.model.proofs.Loops.{loops-exactly, keeps-exactly}
+use Rattle.model.proofs.ComputedTests.{loops-exactly, keeps-exactly}
 use Rattle.model.proofs.AnnotationExact.{annotates}
 use Rattle.model.proofs.BookInverse.{filled-length}
 use Rattle.model.proofs.DemandTwo.{written-is-read, annotate-kept, second-demand}
@@ -83,7 +83,8 @@ module _ (sheet book ann : List ℕ) (s : Sheet) (not-refused : findSheet sheet 
   nothing-answer (some c) e h = let f : First s c = the-first c e in absurd (f .keeps (h c (f .is-choice)))
 
   tables : (o : Option (List ℕ)) → firstChoice s ≡ o → ¬ (findOf sheet book ann .answer ≡ Outcome.Nothing)
-      → (c : List ℕ) × (a : List ℕ) × First s c × Annotates s c a × (findOf sheet book ann ≡ record { answer = Outcome.Tables; book = front (bookOf (s .architecture) c) book; annotation = front a ann })
+      → (c : List ℕ) × (a : List ℕ) × First s c × Annotates s c a
+      × (findOf sheet book ann ≡ record { answer = Outcome.Tables; book = front (bookOf (s .architecture) c) book; annotation = front a ann })
   tables none e n = absurd (n (nothing-answer none e (all-loop e)))
   tables (some c) e n =
       let f : First s c = the-first c e in
@@ -103,7 +104,8 @@ module _ (sheet book ann : List ℕ) (s : Sheet) (not-refused : findSheet sheet 
   module _ (c : List ℕ) (e : firstChoice s ≡ some c) where
     own-is : own ≡ bookOf (s .architecture) c
     unfolding bookOf bookLength front
-    own-is = ap (λ (a : AfterFind). take (bookLength (s .architecture)) (a .book)) (found c e) ∙ take-at (bookOf (s .architecture) c) (drop (length (bookOf (s .architecture) c)) book) (bookLength (s .architecture)) (filled-length (form (s .architecture)) c)
+    own-is = ap (λ (a : AfterFind). take (bookLength (s .architecture)) (a .book)) (found c e)
+        ∙ take-at (bookOf (s .architecture) c) (drop (length (bookOf (s .architecture) c)) book) (bookLength (s .architecture)) (filled-length (form (s .architecture)) c)
 
     own-read : readBook (s .architecture) own ≡ proper c
     own-read = ap (readBook (s .architecture)) own-is ∙ written-is-read (s .architecture) c (the-first c e .is-choice)
@@ -121,7 +123,8 @@ module _ (sheet book ann : List ℕ) (s : Sheet) (not-refused : findSheet sheet 
   pub third-demand : demand-3 sheet book ann s not-refused
   third-demand = record {
     none-exactly = (λ q. all-loop (answer-nothing (firstChoice s) refl q), λ h. nothing-answer (firstChoice s) refl h);
-    none-with-fewer-states = λ q bounds c choice. all-loop (answer-nothing (firstChoice s) refl q) (padded (s .architecture) bounds c) (padded-is-choice (s .architecture) bounds c (good .architecture) choice);
+    none-with-fewer-states = λ q bounds c choice. all-loop (answer-nothing (firstChoice s) refl q) (padded (s .architecture) bounds c)
+        (padded-is-choice (s .architecture) bounds c (good .architecture) choice);
     otherwise = λ n. tables (firstChoice s) refl n;
     choices-listed = choices-in-order (s .architecture) (good .architecture);
     passes-judge = λ q. let r = answer-tables (firstChoice s) refl q in passed (r .0) (r .1);

@@ -19,13 +19,14 @@ use Rattle.model.specs.Choice.{entries, IsChoice, fits}
 use Rattle.model.specs.RunGraph.{vertices, Keeps}
 use Rattle.model.specs.Computed.{loops, annotation, valid}
 use Rattle.model.specs.Book.{form, holes, filled, bookLength, bookOf, wellFormed, entriesIn, bookFault, entryFault, readBook}
-use Rattle.model.specs.Calls.{front, annotationShort, bookShort, Chosen, bookAndRoom, judged, judgeOf, AfterAnnotate, annotatedBy, annotated, annotateOf, written, wrote, writeOf, AfterRead, tablesOf, gave, readOf}
+use Rattle.model.specs.Calls.{front, annotationShort, bookShort, Chosen, bookAndRoom, judged, judgeOf, AfterAnnotate, annotatedBy}
+use Rattle.model.specs.Calls.{annotated, annotateOf, written, wrote, writeOf, AfterRead, tablesOf, gave, readOf}
 use Rattle.model.specs.Demands.{demand-2}
 use Rattle.model.proofs.ProperSheet.{passes, sheet-proper}
 use Rattle.model.proofs.FitsTest.{fits-length, fits-front, fits-right}
 use Rattle.model.proofs.BookInverse.{filled-front, filled-length, filled-well, filled-entries, read-filled, read-length, holes-form}
 use Rattle.model.proofs.PartsAreBook.{parts-with-end}
-use Rattle.model.proofs.Loops.{loops-exactly, valid-exactly}
+use Rattle.model.proofs.ComputedTests.{loops-exactly, valid-exactly}
 use Rattle.model.proofs.AnnotationExact.{annotates}
 use Rattle.model.proofs.AnnotationPasses.{front-long, front-valid}
 
@@ -64,7 +65,8 @@ unfolding readBook bookFault entryFault bookOf refuse_when_else_
 written-is-read a c choice =
     let same : entriesIn (form a) (filled (form a) c) ≡ c = filled-entries (form a) c (holes-of a c choice) in
     let fitting : fits (entries a) c ≡ true = subst (λ (l : List ℕ). fits (entries a) l ≡ true) (append-nil c) (fits-front [] choice) in
-    ap (λ (t : Bool). refuse_when_else_ BadBook (not t) (refuse_when_else_ BadEntry (entryFault a (entriesIn (form a) (filled (form a) c))) (proper (entriesIn (form a) (filled (form a) c))))) (filled-well (form a) c)
+    ap (λ (t : Bool). refuse_when_else_ BadBook (not t)
+    (refuse_when_else_ BadEntry (entryFault a (entriesIn (form a) (filled (form a) c))) (proper (entriesIn (form a) (filled (form a) c))))) (filled-well (form a) c)
     ∙ ap (λ (l : List ℕ). refuse_when_else_ BadEntry (entryFault a l) (proper l)) same
     ∙ ap (λ (t : Bool). refuse_when_else_ BadEntry (not t) (proper c)) fitting
 
@@ -75,7 +77,8 @@ module _ (sheet : List ℕ) (s : Sheet) (is-proper : readSheet sheet ≡ proper 
   room : (book ann c : List ℕ) → readBook (s .architecture) book ≡ proper c → vertices s ≤ length ann → bookAndRoom sheet book ann ≡ proper record { sheet = s; choice = c }
   unfolding bookAndRoom _then_ refuse_when_else_ annotationShort
   room book ann c e l =
-      ap (λ (k : Reading Sheet). k then λ s. readBook (s .architecture) book then λ c. refuse AnnotationBufferTooShort when annotationShort s ann else proper record { sheet = s; choice = c }) is-proper
+      ap (λ (k : Reading Sheet). k then λ s. readBook (s .architecture) book then λ c. refuse AnnotationBufferTooShort when annotationShort s ann else
+      proper record { sheet = s; choice = c }) is-proper
       ∙ ap (λ (k : Reading (List ℕ)). k then λ c. refuse AnnotationBufferTooShort when annotationShort s ann else proper record { sheet = s; choice = c }) e
       ∙ ap (λ (t : Bool). refuse AnnotationBufferTooShort when t else proper record { sheet = s; choice = c }) (le-ltb (length ann) (vertices s) l)
 
@@ -106,12 +109,16 @@ module _ (sheet : List ℕ) (s : Sheet) (is-proper : readSheet sheet ≡ proper 
   not-true-false true n = absurd (n refl)
   not-true-false false n = refl
 
-  write-is : (c book : List ℕ) → IsChoice (s .architecture) c → bookLength (s .architecture) ≤ length book → writeOf sheet (tablesOf c) book ≡ record { answer = Reply.Done; book = front (bookOf (s .architecture) c) book }
+  write-is : (c book : List ℕ) → IsChoice (s .architecture) c → bookLength (s .architecture) ≤ length book
+      → writeOf sheet (tablesOf c) book ≡ record { answer = Reply.Done; book = front (bookOf (s .architecture) c) book }
   unfolding writeOf wrote written _then_ refuse_when_else_ entryFault bookShort bookOf tablesOf front
   write-is c book choice l =
       let rest : List ℕ = drop (length c) (replicate 272 0) in
-      ap (λ (k : Reading Sheet). wrote (k then λ s. refuse BadEntry when entryFault (s .architecture) (c ++ rest) else refuse BookBufferTooShort when bookShort (s .architecture) book else proper (bookOf (s .architecture) (c ++ rest))) book) is-proper
-      ∙ ap (λ (t : Bool). wrote (refuse BadEntry when not t else refuse BookBufferTooShort when bookShort (s .architecture) book else proper (bookOf (s .architecture) (c ++ rest))) book) (fits-front rest choice)
+      ap (λ (k : Reading Sheet). wrote
+      (k then λ s. refuse BadEntry when entryFault (s .architecture) (c ++ rest)
+      else refuse BookBufferTooShort when bookShort (s .architecture) book else proper (bookOf (s .architecture) (c ++ rest))) book) is-proper
+      ∙ ap (λ (t : Bool). wrote (refuse BadEntry when not t else refuse BookBufferTooShort when bookShort (s .architecture) book else proper
+      (bookOf (s .architecture) (c ++ rest))) book) (fits-front rest choice)
       ∙ ap (λ (t : Bool). wrote (refuse BookBufferTooShort when t else proper (bookOf (s .architecture) (c ++ rest))) book) (le-ltb (length book) (bookLength (s .architecture)) l)
       ∙ ap (λ (b : List ℕ). wrote (proper b) book) (filled-front (form (s .architecture)) c rest (holes-of (s .architecture) c choice))
 

@@ -11,7 +11,7 @@ use Rattle.model.specs.Compose.{rowLength}
 use Rattle.model.specs.Choice.{row, times, rows, entries, IsChoice}
 use Rattle.model.specs.Calls.{front, tablesOf}
 use Rattle.model.proofs.FitsTest.{fits-length, row-length}
-use Rattle.model.proofs.Compose.{times-length}
+use Rattle.model.proofs.ComposedNumbers.{times-length}
 
 pub row-short : {v e : ℕ} (p : Process) → ProperProcess v e p → rowLength p ≤ 17
 unfolding rowLength

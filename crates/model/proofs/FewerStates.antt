@@ -11,8 +11,8 @@ use Rattle.model.specs.Sheet.{Process, Architecture, ProperProcesses, Pr
 use Rattle.model.specs.Compose.{rowLength, processLength}
 use Rattle.model.specs.Choice.{Entry, next, may, row, times, rows, entries, Fits, done, also, IsChoice, lowered, padRows, padded}
 use Rattle.model.proofs.FitsTest.{row-length}
-use Rattle.model.proofs.Entries.{times-have, MayZero, zeros, output-zero, next-zero}
-use Rattle.model.proofs.Compose.{fits-drop, times-length}
+use Rattle.model.proofs.EntryLaws.{times-have, MayZero, zeros, output-zero, next-zero}
+use Rattle.model.proofs.ComposedNumbers.{fits-drop, times-length}
 
 fits-append : {es fs : List Entry} {c d : List ℕ} → Fits es c → Fits fs d → Fits (es ++ fs) (c ++ d)
 fits-append done g = g

@@ -17,7 +17,7 @@ use Rattle.model.specs.Sheet.{Architecture, ProperProcess, ProperArchite
 use Rattle.model.specs.Choice.{Entry, may, values, entries, Fits, done, also, Before, lower, later, choices}
 use Rattle.model.specs.Computed.{first}
 use Rattle.model.proofs.SettlingOrder.{or-else, with-head, try, settle, settle-first}
-use Rattle.model.proofs.Entries.{entries-have}
+use Rattle.model.proofs.EntryLaws.{entries-have}
 
 -- ---- lists that rise
 pub data Rising : List ℕ → Type 0 where

@@ -14,7 +14,9 @@ use Rattle.model.specs.declared.Refusal.{Refusal}
 use Rattle.model.specs.declared.Refusal.the-variants.{SheetTooShort, WrongMark, BadArchitecture, BadProcess, NoOwnerOrTooMany, BadAutomaton, BadEdge}
 use Rattle.model.specs.Mask.{if}
 use Rattle.model.specs.Sheet.{Process, Architecture, Sheet, withProcess}
-use Rattle.model.specs.Reading.{Reading, refused, proper, byte, short, marked, EN, ED, AU, PR, AR, arFault, prFault, allFault, auFault, edFault, architectureAt, processAt, edgeAt, Front, readEnd, readEdge, readEdges, readAutomaton, readProcess, readProcesses, readFront, readSheet, refuse_when_else_, _then_}
+use Rattle.model.specs.Reading.{Reading, refused, proper, byte, short, marked, EN, ED, AU, PR}
+use Rattle.model.specs.Reading.{AR, arFault, prFault, allFault, auFault, edFault, architectureAt, processAt, edgeAt, Front}
+use Rattle.model.specs.Reading.{readEnd, readEdge, readEdges, readAutomaton, readProcess, readProcesses, readFront, readSheet, refuse_when_else_, _then_}
 use Rattle.model.specs.Calls.{reply, checkOf, findSheet, findOf}
 use Rattle.model.proofs.ProperSheet.{front-read}
 

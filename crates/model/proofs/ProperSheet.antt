@@ -14,8 +14,11 @@ use lib.Bits.{and-comm}
 use Rattle.theory.specs.Lists.{empty, before, all, from}
 use Rattle.theory.proofs.ListLaws.{all-is, from-has, pairwise-append}
 use Rattle.model.specs.Mask.{if, share, beyond, count}
-use Rattle.model.specs.Sheet.{Process, Architecture, Edge, Automaton, Sheet, withProcess, owned, composedStates, Apart, ProperProcess, ProperProcesses, OutputsApart, ProperFront, ProperArchitecture, ProperEdge, ProperEdges, ProperAutomaton, ProperSheet}
-use Rattle.model.specs.Reading.{Reading, refused, proper, byte, short, marked, EN, ED, AU, PR, AR, arFault, taken, fieldFault, prFault, allFault, auFault, edFault, architectureAt, processAt, edgeAt, Front, readEnd, readEdge, readEdges, readAutomaton, readProcess, readProcesses, readFront, readSheet, refuse_when_else_, _then_}
+use Rattle.model.specs.Sheet.{Process, Architecture, Edge, Automaton, Sheet, withProcess, owned, composedStates, Apart}
+use Rattle.model.specs.Sheet.{ProperProcess, ProperProcesses, OutputsApart, ProperFront, ProperArchitecture, ProperEdge, ProperEdges, ProperAutomaton, ProperSheet}
+use Rattle.model.specs.Reading.{Reading, refused, proper, byte, short, marked, EN, ED, AU, PR, AR}
+use Rattle.model.specs.Reading.{arFault, taken, fieldFault, prFault, allFault, auFault, edFault, architectureAt, processAt, edgeAt, Front}
+use Rattle.model.specs.Reading.{readEnd, readEdge, readEdges, readAutomaton, readProcess, readProcesses, readFront, readSheet, refuse_when_else_, _then_}
 
 -- ---- the first fault in order
 pub passes : {A : Type 0} (r : Refusal) (t : Bool) (k : Reading A) {a : A} → refuse_when_else_ r t k ≡ proper a → (t ≡ false) × (k ≡ proper a)
@@ -128,14 +131,16 @@ process-more a p g few f =
       environment-known = g .environment-known;
       root-known = g .root-known;
       few-processes = omega (arith, length-append (a .processes) (p ∷ []));
-      processes-proper = λ q m. ⊎-elim (λ i. g .processes-proper q i) (λ i. subst (ProperProcess (a .variables) (a .environment)) (sym (List·Memᴰ·eq-of-singleton i)) (fields-proper _ _ p (h .0))) (List·Memᴰ·append-cases (a .processes) m);
+      processes-proper = λ q m. ⊎-elim (λ i. g .processes-proper q i)
+          (λ i. subst (ProperProcess (a .variables) (a .environment)) (sym (List·Memᴰ·eq-of-singleton i)) (fields-proper _ _ p (h .0))) (List·Memᴰ·append-cases (a .processes) m);
       outputs-apart =
           pairwise-append (g .outputs-apart) (before (λ q m. absurd (List·Memᴰ·not-nil m)) empty)
           (λ q r i j. subst (λ (x : Process). Apart (q .outputs) (x .outputs)) (sym (List·Memᴰ·eq-of-singleton j)) (not-taken (a .processes) p (h .1) q i));
     }
 
 -- ---- the front: at most k more processes of 5 bytes
-processes-read : (k : ℕ) (a : Architecture) (b : List ℕ) (i : ℕ) (f : Front) → ProperFront a → length (a .processes) + k ≤ 4 → readProcesses k a b i ≡ proper f → ProperFront (f .architecture) × (f .end ≤ i + 5 * k)
+processes-read : (k : ℕ) (a : Architecture) (b : List ℕ) (i : ℕ) (f : Front) → ProperFront a → length (a .processes) + k ≤ 4
+    → readProcesses k a b i ≡ proper f → ProperFront (f .architecture) × (f .end ≤ i + 5 * k)
 unfolding readProcesses readProcess withProcess
 processes-read zero a b i f g few e = let same = same-proper _ f e in (subst (λ (x : Front). ProperFront (x .architecture)) same g, omega (arith, ap (λ (x : Front). x .end) same))
 processes-read (suc k) a b i f g few e =
@@ -211,7 +216,8 @@ front-whole a g some f =
     record {
       front = g;
       some-process = omega arith;
-      all-owned = λ i l u. all-is (owned (a .processes)) (from (a .variables - a .environment) (a .environment)) .0 (not-false own (h .0)) i (from-has (a .variables - a .environment) (a .environment) i l (omega arith));
+      all-owned = λ i l u. all-is (owned (a .processes)) (from (a .variables - a .environment) (a .environment)) .0 (not-false own (h .0)) i
+          (from-has (a .variables - a .environment) (a .environment) i l (omega arith));
       few-composed = ltb-false _ _ (h .1);
     }
   where

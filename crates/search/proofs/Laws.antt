@@ -14,7 +14,7 @@ use Rattle.model.specs.Sheet.{Architecture, Sheet, ProperArchitecture, ProperSh
 use Rattle.model.specs.Choice.{Entry, entries, may, Fits, done, also, IsChoice, chosen}
 use Rattle.model.specs.Computed.{loops, keeps, firstChoice}
 use Rattle.model.proofs.FitsTest.{fits-length}
-use Rattle.model.proofs.Entries.{fits-at, fits-set, before-at, zeros-fit}
+use Rattle.model.proofs.EntryLaws.{fits-at, fits-set, before-at, zeros-fit}
 use Rattle.model.proofs.FirstInOrder.{entries-small}
 use Rattle.model.proofs.FirstUnique.{none-is, first-is}
 use Rattle.choice.specs.Kinds.{kindOf}

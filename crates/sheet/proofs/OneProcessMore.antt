@@ -15,7 +15,7 @@ use Rattle.architecture.specs.Struct.{architectureOf, processesIn, Arrays}
 use Rattle.architecture.proofs.Processes.{count-is}
 use Rattle.sheet.specs.declared.FrontRead.{FrontRead}
 use Rattle.sheet.specs.Struct.{outputsOf, FrontKnown}
-use Rattle.sheet.proofs.Masks.{outputs-more}
+use Rattle.sheet.proofs.OwnedOutputs.{outputs-more}
 use Rattle.sheet.proofs.ComposedStates.{composed-more, composed-few}
 
 pub count-more : (x y : Architecture) (p : Process) → architectureOf y ≡ withProcess (architectureOf x) p → y .processes ≡ x .processes + 1

@@ -17,7 +17,7 @@ use Rattle.sheet.specs.declared.FrontRead.{FrontRead}
 use Rattle.sheet.specs.declared.Sheet.{Sheet}
 use Rattle.sheet.specs.Struct.{sheetOf, readingAs, outputsOf, FrontKnown, automatonAs}
 use Rattle.sheet.specs.Steps.{processFrom}
-use Rattle.sheet.proofs.Masks.{taken-is}
+use Rattle.sheet.proofs.OwnedOutputs.{taken-is}
 
 -- a refusal stays, whatever follows
 pub refuse-then : {A B : Type 0} (r : Refusal) (t : Bool) (m : Reading A) (f : A → Reading B) → (refuse_when_else_ r t m then f) ≡ refuse_when_else_ r t (m then f)

@@ -9,7 +9,7 @@ use Rattle.model.specs.Book.{bookOf}
 use Rattle.model.specs.Calls.{front, findSheet, findChoice, findIn, findOf}
 use Rattle.model.specs.Computed.{annotation}
 use Rattle.arbiter.specs.Arbiter.{arbiter}
-use Rattle.arbiter.proofs.First.{first-is-A}
+use Rattle.arbiter.proofs.FirstChoice.{first-is-A}
 use Rattle.model.specs.BenchCases.{sheetA, choiceA, bookA, annotationA}
 use Rattle.starred.specs.Table.{Holds, rowA, buffer, found}
 

@@ -1,2 +1,2 @@
 pub mod CaseA
-pub mod Rows
+pub mod EveryRow

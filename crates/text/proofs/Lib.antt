@@ -1,7 +1,7 @@
 -- the laws that the proofs of the functions cite
 pub mod WholeText
-pub mod Numbers
-pub mod Rows
-pub mod Short
+pub mod DecimalLaws
+pub mod RowTexts
+pub mod TextShort
 pub mod TextReads
 pub mod CaseA

@@ -13,7 +13,7 @@ use Rattle.model.proofs.FitsTest.{fits-length}
 use Rattle.architecture.specs.Struct.{entriesOf}
 use Rattle.architecture.proofs.Processes.{rows-length}
 use Rattle.text.specs.Text.{rowText, rowsText, tablesText, textOf}
-use Rattle.text.proofs.Rows.{rowOf, row-first, row-next}
+use Rattle.text.proofs.RowTexts.{rowOf, row-first, row-next}
 
 -- ---- what follows the entries is not read
 module _ (c r : List ℕ) where

@@ -4,6 +4,7 @@ use Rattle.model.specs.Calls.{cut}
 use Rattle.book.proofs.nowhere.Statement.{statement}
 use Rattle.book.proofs.nowhere.Tie as tie
 
+-- `Part`
 returns : tie.Need-returns
 unfolding cut
 returns c = refl

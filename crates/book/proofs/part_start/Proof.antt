@@ -25,15 +25,19 @@ Inv-loop a i at₀ k₀ at k = (k ≤ i) × ((at ≤ 84 * k) × (at + partStart 
 abbrev μ-loop : tie.MeasureT-loop
 μ-loop a i at₀ k₀ at k = i - k
 
+-- `while k < i`
 loop-holds : tie.Need-loop-holds Inv-loop μ-loop
 loop-holds c = (omega arith, (omega arith, let z : c .args .i - 0 ≡ c .args .i = omega arith in rw z (omega arith)))
 
+-- `at += a.bound_of(k) * (4 + architecture::row_length(a.inputs_of(k)))`
 bound-of-requires : tie.Need-bound-of-requires Inv-loop μ-loop
 bound-of-requires c κs = (c .before .before .pre .0, omega (arith, c .loop-test .taken, c .before .before .pre .1))
 
+-- `at += a.bound_of(k) * (4 + architecture::row_length(a.inputs_of(k)))`
 inputs-of-requires : tie.Need-inputs-of-requires Inv-loop μ-loop
 inputs-of-requires c κs = bound-of-requires (c .before) κs
 
+-- `at += a.bound_of(k) * (4 + architecture::row_length(a.inputs_of(k)))`
 row-length-requires : tie.Need-row-length-requires Inv-loop μ-loop
 row-length-requires c κs = search needs
 
@@ -72,21 +76,27 @@ module _ (c : tie.After-row-length Inv-loop μ-loop) where
       let states : c .before .before .bound-of .result ≤ 4 = omega (arith, c .before .before .bound-of .ensures, facts (entry .pre .0) .few-states (turn .before .loop .k) inside) in
       mul-le-mul {m₁ = 4 + c .row-length .result} {m₂ = 21} states (omega (arith, short))
 
+-- `at += a.bound_of(k) * (4 + architecture::row_length(a.inputs_of(k)))`
 add-at : tie.Need-add-at Inv-loop μ-loop
 add-at c = omega (arith, short c)
 
+-- `at += a.bound_of(k) * (4 + architecture::row_length(a.inputs_of(k)))`
 mul-at : tie.Need-mul-at Inv-loop μ-loop
 mul-at c = omega (arith, few c)
 
+-- `at += a.bound_of(k) * (4 + architecture::row_length(a.inputs_of(k)))`
 add-at-2 : tie.Need-add-at-2 Inv-loop μ-loop
 add-at-2 c = omega (arith, few c, turn c .before .loop .inv .1 .0, inside c, entry c .pre .0 .arrays .few-processes)
 
+-- `k += 1`
 add-k : tie.Need-add-k Inv-loop μ-loop
 add-k c = omega (arith, inside c, entry c .pre .0 .arrays .few-processes)
 
+-- `while k < i`
 loop-less : tie.Need-loop-less Inv-loop μ-loop
 loop-less c = omega (arith, turn c .loop-test .taken)
 
+-- `while k < i`
 loop-again : tie.Need-loop-again Inv-loop μ-loop
 loop-again c =
     let l = turn c .before .loop in
@@ -97,6 +107,7 @@ loop-again c =
       (omega (arith, l .inv .1 .0, few c), omega (arith, size-known c, part-turn (p c) (drop (l .k + 1) (processesIn a)) (entry c .args .i) (l .k) h, rw next at (l .inv .1 .1))),
     )
 
+-- `at`
 returns : tie.Need-returns Inv-loop μ-loop
 unfolding partStart
 returns c =

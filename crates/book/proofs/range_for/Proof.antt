@@ -12,37 +12,46 @@ use Rattle.model.specs.Calls.{AfterRead, noProcess, gave, cut, partFor}
 use Rattle.architecture.specs.Struct.{architectureOf}
 use Rattle.model.proofs.Refusing.{stop, go}
 use Rattle.architecture.proofs.Processes.{count-is}
-use Rattle.book.proofs.Answers.{gave-refused, gave-done}
+use Rattle.book.proofs.ReadingAnswers.{gave-refused, gave-done}
 use Rattle.book.proofs.range_for.Statement.{statement}
 use Rattle.book.proofs.range_for.Tie as tie
 
+-- `return nowhere(Refusal::NoSuchProcess)`
 nowhere-requires : tie.Need-nowhere-requires
 nowhere-requires c κs = search needs
 
+-- `return nowhere(Refusal::NoSuchProcess)`
 returns : tie.Need-returns
 unfolding partFor noProcess cut
 returns c =
     let a = c .before .before .before .args in
     c .nowhere .ensures ∙ sym (ap (λ (k : Reading Architecture). cut k (a .i)) (stop _ _ (le-leb _ _ (rw (← count-is (a .a)) at (c .before .if1 .taken)))))
 
+-- `let read = read_for(a, book)`
 read-for-requires : tie.Need-read-for-requires
 read-for-requires c κs = search needs
 
+-- `Reply::Refused(refusal) => nowhere(refusal),`
 enum-known-answer : tie.Need-enum-known-answer
 enum-known-answer c = search needs
 
+-- `Reply::Refused(refusal) => nowhere(refusal),`
 nowhere-requires-2 : tie.Need-nowhere-requires-2
 nowhere-requires-2 c κs = search needs
 
+-- `answer: Reply::Done,`
 enum-told : tie.Need-enum-told
 enum-told c = search needs
 
+-- `start: part_start(a, i),`
 part-start-requires : tie.Need-part-start-requires
 part-start-requires c κs = search needs
 
+-- `end: part_start(a, i + 1),`
 add-part-start : tie.Need-add-part-start
 add-part-start c = search needs
 
+-- `end: part_start(a, i + 1),`
 part-start-requires-2 : tie.Need-part-start-requires-2
 part-start-requires-2 c κs = search needs
 
@@ -65,6 +74,7 @@ module _ (c : tie.After-read-for) where
   answered : gave reading .answer ≡ c .read-for .result .answer
   answered = sym (ap (λ (x : AfterRead). x .answer) (c .read-for .ensures))
 
+-- `match answer`
 returns-2 : tie.Need-returns-2
 unfolding cut _then_
 returns-2 c =
@@ -74,6 +84,7 @@ returns-2 c =
     let part : partFor (s r) (entry r .args .book .now) (entry r .args .i) ≡ refused refusal = known r ∙ rw e in
     rw part (c .nowhere2 .ensures)
 
+-- `match answer`
 returns-3 : tie.Need-returns-3
 unfolding cut _then_ partEnd architectureOf
 returns-3 c =

@@ -14,23 +14,28 @@ use Rattle.model.specs.Calls.{tablesOf, gave}
 use Rattle.model.proofs.BookInverse.{holes-form}
 use Rattle.architecture.specs.Struct.{architectureOf}
 use Rattle.model.proofs.Refusing.{stop, go}
-use Rattle.book.proofs.Slots.{right-length, entries-length, form-holes}
-use Rattle.book.proofs.Answers.{fitting-is}
+use Rattle.book.proofs.OneSlotMore.{right-length, entries-length, form-holes}
+use Rattle.book.proofs.ReadingAnswers.{fitting-is}
 use Rattle.book.proofs.read_for.Statement.{statement}
 use Rattle.book.proofs.read_for.Tie as tie
 
+-- `let n = layout::fill_slots(&mut slots, a)`
 slice-aggregate-fill-slots : tie.Need-slice-aggregate-fill-slots
 slice-aggregate-fill-slots c = search needs
 
+-- `let n = layout::fill_slots(&mut slots, a)`
 fill-slots-requires : tie.Need-fill-slots-requires
 fill-slots-requires c κs = search needs
 
+-- `if is_malformed(&slots, n, book)`
 slice-aggregate-is-malformed : tie.Need-slice-aggregate-is-malformed
 slice-aggregate-is-malformed c = search needs
 
+-- `if is_malformed(&slots, n, book)`
 is-malformed-requires : tie.Need-is-malformed-requires
 is-malformed-requires c κs = search needs
 
+-- `return unread(Refusal::BadBook)`
 unread-requires : tie.Need-unread-requires
 unread-requires c κs = search needs
 
@@ -54,13 +59,16 @@ module _ (c : tie.After-is-malformed) where
   unfolding bookFault
   malformed = c .is-malformed .ensures ∙ ap (λ (ps : List Slot). not (wellFormed ps book)) (filled .fill-slots .ensures .1)
 
+-- `return unread(Refusal::BadBook)`
 returns : tie.Need-returns
 unfolding readBook
 returns c = c .unread .ensures ∙ ap gave (sym (stop _ _ (sym (malformed (c .before .before)) ∙ c .before .if1 .taken)))
 
+-- `take_entries(&mut tables, &slots, n, book)`
 slice-aggregate-take-entries : tie.Need-slice-aggregate-take-entries
 slice-aggregate-take-entries c = search needs
 
+-- `take_entries(&mut tables, &slots, n, book)`
 slice-aggregate-take-entries-2 : tie.Need-slice-aggregate-take-entries-2
 slice-aggregate-take-entries-2 c = search needs
 
@@ -69,6 +77,7 @@ long : (c : tie.Else1) → length (book (c .before)) ≡ length (form (s (c .bef
 unfolding bookFault
 long c = right-length (form (s (c .before))) (book (c .before)) (not-false _ (sym (malformed (c .before)) ∙ c .if1 .left))
 
+-- `take_entries(&mut tables, &slots, n, book)`
 take-entries-requires : tie.Need-take-entries-requires
 unfolding bookLength
 take-entries-requires c κs =
@@ -79,9 +88,11 @@ take-entries-requires c κs =
       omega (arith, form-holes (start .args .a) (start .pre) _ (n .ensures .1)),
     )
 
+-- `fitting(a, tables)`
 fitting-requires : tie.Need-fitting-requires
 fitting-requires c κs = search needs
 
+-- `fitting(a, tables)`
 returns-2 : tie.Need-returns-2
 unfolding readBook tablesOf
 returns-2 c =

@@ -4,6 +4,7 @@ use Rattle.model.specs.Calls.{front, tablesOf, gave}
 use Rattle.book.proofs.unread.Statement.{statement}
 use Rattle.book.proofs.unread.Tie as tie
 
+-- `TablesRead`
 returns : tie.Need-returns
 unfolding gave tablesOf front
 returns c = refl

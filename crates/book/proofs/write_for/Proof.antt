@@ -12,10 +12,11 @@ use Rattle.model.specs.Book.{Slot, filled, bookOf}
 use Rattle.model.specs.Calls.{front, wrote, bookShort, writtenFor}
 use Rattle.architecture.specs.Struct.{architectureOf}
 use Rattle.model.proofs.Refusing.{stop, go}
-use Rattle.book.proofs.Slots.{form-holes}
+use Rattle.book.proofs.OneSlotMore.{form-holes}
 use Rattle.book.proofs.write_for.Statement.{statement}
 use Rattle.book.proofs.write_for.Tie as tie
 
+-- `if choice::entry_fault(a, tables)`
 entry-fault-requires : tie.Need-entry-fault-requires
 entry-fault-requires c κs = search needs
 
@@ -31,15 +32,18 @@ module _ (c : tie.After-entry-fault) where
   abbrev due : Reading (List ℕ)
   due = writtenFor s (entry .args .tables .now) (entry .args .book .now)
 
+-- `return Reply::Refused(Refusal::BadEntry)`
 returns : tie.Need-returns
 unfolding wrote writtenFor
 returns c =
     let e : due (c .before) ≡ refused BadEntry = stop _ _ (sym (c .before .entry-fault .ensures) ∙ c .if1 .taken) in
     rw e (refl, refl)
 
+-- `let n = layout::fill_slots(&mut slots, a)`
 slice-aggregate-fill-slots : tie.Need-slice-aggregate-fill-slots
 slice-aggregate-fill-slots c = search needs
 
+-- `let n = layout::fill_slots(&mut slots, a)`
 fill-slots-requires : tie.Need-fill-slots-requires
 fill-slots-requires c κs = search needs
 
@@ -54,6 +58,7 @@ module _ (c : tie.After-fill-slots) where
   unfolding writtenFor
   fitting = go _ _ (sym (tested .entry-fault .ensures) ∙ c .before .before .if1 .left)
 
+-- `return Reply::Refused(Refusal::BookBufferTooShort)`
 returns-2 : tie.Need-returns-2
 unfolding wrote bookShort
 returns-2 c =
@@ -61,9 +66,11 @@ returns-2 c =
     let e : due (tested f) ≡ refused BookBufferTooShort = fitting f ∙ stop _ _ (lt-ltb _ _ (rw (f .fill-slots .ensures .0 .0) at (c .if2 .taken))) in
     rw e (refl, refl)
 
+-- `put_bytes(book, &slots, n, tables)`
 slice-aggregate-put-bytes : tie.Need-slice-aggregate-put-bytes
 slice-aggregate-put-bytes c = search needs
 
+-- `put_bytes(book, &slots, n, tables)`
 put-bytes-requires : tie.Need-put-bytes-requires
 put-bytes-requires c κs =
     let f = c .before .before .before .before .before in
@@ -73,9 +80,11 @@ put-bytes-requires c κs =
       (omega (arith, form-holes (start .args .a) (start .pre) _ (n .ensures .1), start .good), omega (arith, start .good)),
     )
 
+-- `Reply::Done`
 same-length : tie.Need-same-length
 same-length c = search needs
 
+-- `Reply::Done`
 returns-3 : tie.Need-returns-3
 unfolding wrote bookShort bookOf
 returns-3 c =

@@ -8,18 +8,23 @@ use Rattle.model.specs.Book.{entryFault}
 use Rattle.choice.proofs.entry_fault.Statement.{statement}
 use Rattle.choice.proofs.entry_fault.Tie as tie
 
+-- `let n = fill_kinds(&mut kinds, a)`
 slice-aggregate-fill-kinds : tie.Need-slice-aggregate-fill-kinds
 slice-aggregate-fill-kinds c = search needs
 
+-- `let n = fill_kinds(&mut kinds, a)`
 fill-kinds-requires : tie.Need-fill-kinds-requires
 fill-kinds-requires c κs = search needs
 
+-- `is_misfit(&kinds, n, tables)`
 slice-aggregate-is-misfit : tie.Need-slice-aggregate-is-misfit
 slice-aggregate-is-misfit c = search needs
 
+-- `is_misfit(&kinds, n, tables)`
 is-misfit-requires : tie.Need-is-misfit-requires
 is-misfit-requires c κs = search needs
 
+-- `is_misfit(&kinds, n, tables)`
 returns : tie.Need-returns
 unfolding entryFault
 returns c =

@@ -22,6 +22,7 @@ abbrev μ-loop : tie.MeasureT-loop
 abbrev turn : tie.After-slice-known2 Inv-loop μ-loop → tie.In-loop Inv-loop μ-loop
 turn c = c .before .before .before .before
 
+-- `while i < n`
 loop-holds : tie.Need-loop-holds Inv-loop μ-loop
 unfolding entries architectureOf
 loop-holds c = (omega arith, appending-none _ _ _)
@@ -39,21 +40,27 @@ module _ (c : tie.At-loop Inv-loop μ-loop) where
 next : (c : tie.In-loop Inv-loop μ-loop) → let a = entry (c .before) .args .a in let i = c .before .loop .i in Opens (kindsFrom a i) (processCodes a i) (kindsFrom a (i + 1))
 next c = kinds-open (entry (c .before) .args .a) (c .before .loop .i) (c .loop-test .taken)
 
+-- `at = put_rows(kinds, at, a, i)`
 put-rows-requires : tie.Need-put-rows-requires Inv-loop μ-loop
 put-rows-requires c κs = let l = c .before .before in (entry l .pre .0, (c .before .loop-test .taken, appending-room (l .loop .inv .1) (room l) (next (c .before))))
 
+-- `i += 1`
 add-i : tie.Need-add-i Inv-loop μ-loop
 add-i c = omega (arith, turn c .loop-test .taken, entry (turn c .before) .pre .0 .arrays .few-processes)
 
+-- `while i < n`
 loop-less : tie.Need-loop-less Inv-loop μ-loop
 loop-less c = omega (arith, turn c .loop-test .taken)
 
+-- `while i < n`
 loop-again : tie.Need-loop-again Inv-loop μ-loop
 loop-again c = (omega (arith, turn c .loop-test .taken), appending-next (turn c .before .loop .inv .1) (next (turn c)) (c .before .before .put-rows .ensures))
 
+-- `at`
 same-length : tie.Need-same-length Inv-loop μ-loop
 same-length c = appending-length (c .before .loop .inv .1) (room (c .before))
 
+-- `at`
 returns : tie.Need-returns Inv-loop μ-loop
 returns c =
     let l = c .before in

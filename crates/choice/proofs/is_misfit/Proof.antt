@@ -21,18 +21,23 @@ Inv-loop kinds n tables k₀ k = (k ≤ n) × (fits (map kindOf (drop k (take n 
 abbrev μ-loop : tie.MeasureT-loop
 μ-loop kinds n tables k₀ k = n - k
 
+-- `while k < n`
 loop-holds : tie.Need-loop-holds Inv-loop μ-loop
 loop-holds c = (omega arith, refl)
 
+-- `if !may_be(kinds[k], tables[k])`
 mul-may-be : tie.Need-mul-may-be Inv-loop μ-loop
 mul-may-be c = omega arith
 
+-- `if !may_be(kinds[k], tables[k])`
 shared-slice-read-may-be : tie.Need-shared-slice-read-may-be Inv-loop μ-loop
 shared-slice-read-may-be c = omega arith
 
+-- `if !may_be(kinds[k], tables[k])`
 shared-slice-read-may-be-2 : tie.Need-shared-slice-read-may-be-2 Inv-loop μ-loop
 shared-slice-read-may-be-2 c = omega arith
 
+-- `if !may_be(kinds[k], tables[k])`
 may-be-requires : tie.Need-may-be-requires Inv-loop μ-loop
 may-be-requires c κs = search needs
 
@@ -57,9 +62,11 @@ module _ (c : tie.After-may-be Inv-loop μ-loop) where
       let h = c .before .before .before .loop-test .taken in
       sym (c .before .before .before .before .loop .inv .1) ∙ fits-turn (a .kinds .now) (a .tables .now) (a .n) k h (entry .pre .0) (omega (arith, h, entry .pre .1))
 
+-- `return true`
 returns : tie.Need-returns Inv-loop μ-loop
 returns c = sym (ap not (here (c .before) ∙ and-off _ (sym (c .before .may-be .ensures) ∙ not-true _ (c .if1 .taken))))
 
+-- `k += 1`
 add-k : tie.Need-add-k Inv-loop μ-loop
 add-k c = omega arith
 
@@ -67,12 +74,15 @@ add-k c = omega arith
 abbrev turn : tie.Else1 Inv-loop μ-loop → tie.In-loop Inv-loop μ-loop
 turn c = c .before .before .before .before
 
+-- `while k < n`
 loop-less : tie.Need-loop-less Inv-loop μ-loop
 loop-less c = omega (arith, turn c .loop-test .taken)
 
+-- `while k < n`
 loop-again : tie.Need-loop-again Inv-loop μ-loop
 loop-again c = (omega (arith, turn c .loop-test .taken), sym (here (c .before) ∙ and-on _ (sym (c .before .may-be .ensures) ∙ not-false _ (c .if1 .left))))
 
+-- `false`
 returns-2 : tie.Need-returns-2 Inv-loop μ-loop
 unfolding fits
 returns-2 c =

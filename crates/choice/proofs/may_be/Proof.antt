@@ -6,10 +6,12 @@ use Rattle.choice.specs.Kinds.{kindOf}
 use Rattle.choice.proofs.may_be.Statement.{statement}
 use Rattle.choice.proofs.may_be.Tie as tie
 
+-- `return value as u16 & most == value as u16`
 returns : tie.Need-returns
 unfolding kindOf if may within
 returns c = simp (eq-eqb _ _ (c .if1 .taken))
 
+-- `(value as u16) < most`
 returns-2 : tie.Need-returns-2
 unfolding kindOf if may
 returns-2 c = simp (ne-eqb _ _ (c .if1 .left))

@@ -4,21 +4,27 @@ use Rattle.append.proofs.Appended.{append-more}
 use Rattle.choice.proofs.put_row.Statement.{statement}
 use Rattle.choice.proofs.put_row.Tie as tie
 
+-- `let after_output = append::word(kinds, at, output_word(outputs))`
 output-word-requires : tie.Need-output-word-requires
 output-word-requires c κs = search needs
 
+-- `let after_output = append::word(kinds, at, output_word(outputs))`
 word-requires : tie.Need-word-requires
 word-requires c κs = search needs
 
+-- `append::fill(kinds, after_output, next_word(bound), states)`
 next-word-requires : tie.Need-next-word-requires
 next-word-requires c κs = search needs
 
+-- `append::fill(kinds, after_output, next_word(bound), states)`
 fill-requires : tie.Need-fill-requires
 fill-requires c κs = search needs
 
+-- `append::fill(kinds, after_output, next_word(bound), states)`
 same-length : tie.Need-same-length
 same-length c = search needs
 
+-- `append::fill(kinds, after_output, next_word(bound), states)`
 returns : tie.Need-returns
 returns c =
     let output = c .before .before .before .before .before .before .before in

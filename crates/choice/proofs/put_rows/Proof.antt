@@ -28,12 +28,15 @@ abbrev μ-loop : tie.MeasureT-loop
 abbrev turn : tie.After-slice-known2 Inv-loop μ-loop → tie.In-loop Inv-loop μ-loop
 turn c = c .before .before .before .before
 
+-- `let states = architecture::row_length(a.inputs_of(i)) - 1`
 inputs-of-requires : tie.Need-inputs-of-requires Inv-loop μ-loop
 inputs-of-requires c κs = (c .before .pre .0, c .before .pre .1 .0)
 
+-- `let states = architecture::row_length(a.inputs_of(i)) - 1`
 row-length-requires : tie.Need-row-length-requires Inv-loop μ-loop
 row-length-requires c κs = search needs
 
+-- `let states = architecture::row_length(a.inputs_of(i)) - 1`
 sub-states : tie.Need-sub-states Inv-loop μ-loop
 sub-states c = omega (arith, c .row-length .ensures)
 
@@ -41,12 +44,15 @@ sub-states c = omega (arith, c .row-length .ensures)
 one-of-four : (c : tie.Start Inv-loop μ-loop) → c .args .i < 4
 one-of-four c = omega (arith, facts (c .pre .0) .few-processes, c .pre .1 .0)
 
+-- `let outputs = all_outputs[i]`
 array-read-outputs : tie.Need-array-read-outputs Inv-loop μ-loop
 array-read-outputs c = omega (arith, one-of-four (c .before .before .before .before .before))
 
+-- `let bound = all_bounds[i]`
 array-read-bound : tie.Need-array-read-bound Inv-loop μ-loop
 array-read-bound c = omega (arith, one-of-four (c .before .before .before .before .before))
 
+-- `while x < bound`
 loop-holds : tie.Need-loop-holds Inv-loop μ-loop
 loop-holds c p er eb = let z : p .bound - 0 ≡ p .bound = omega arith in rw z (appending-none _ _ _)
 
@@ -78,24 +84,30 @@ next : (c : tie.In-loop Inv-loop μ-loop) (q : Process) → let l = c .before in
     → Opens (map kindCode (times (q .bound - x) (row q))) (rowCodes (p l .outputs) (p l .bound) (states l)) (map kindCode (times (q .bound - (x + 1)) (row q)))
 next c q er eb = rows-open q _ (q .bound) (c .before .loop .x) er (omega (arith, c .loop-test .taken, eb))
 
+-- `at = put_row(kinds, at, outputs, bound, states)`
 put-row-requires : tie.Need-put-row-requires Inv-loop μ-loop
 put-row-requires c κs =
     let l = c .before .before in
     let room = appending-room (so-far l) (entry l .pre .1 .1) (next (c .before) (p l) (row-known l) refl) in
     omega (arith, room, length-replicate (states l) (p l .bound * 2 + 1))
 
+-- `x += 1`
 add-x : tie.Need-add-x Inv-loop μ-loop
 add-x c = omega (arith, turn c .loop-test .taken, let e = entry (turn c .before) in facts (e .pre .0) .few-states (e .args .i) (e .pre .1 .0))
 
+-- `while x < bound`
 loop-less : tie.Need-loop-less Inv-loop μ-loop
 loop-less c = omega (arith, turn c .loop-test .taken)
 
+-- `while x < bound`
 loop-again : tie.Need-loop-again Inv-loop μ-loop
 loop-again c q er eb = appending-next (turn c .before .loop .inv q er eb) (next (turn c) q er eb) (c .before .before .put-row .ensures)
 
+-- `at`
 same-length : tie.Need-same-length Inv-loop μ-loop
 same-length c = appending-length (so-far (c .before)) (entry (c .before) .pre .1 .1)
 
+-- `at`
 returns : tie.Need-returns Inv-loop μ-loop
 unfolding times
 returns c =

@@ -1,7 +1,7 @@
 -- `draw::draw_book` is safe: the architecture of a proper sheet is in order.
 use borrow.Author.Needs.{needs}
 use Rattle.architecture.specs.Struct.{IsProper}
-use Rattle.sheet.proofs.Sheets.{architecture-proper}
+use Rattle.sheet.proofs.AnswersOfReading.{architecture-proper}
 use Rattle.draw.proofs.draw_book.Statement.{statement}
 use Rattle.draw.proofs.draw_book.Tie as tie
 

@@ -9,7 +9,7 @@ use Rattle.model.specs.Compose.{rowAt}
 use Rattle.architecture.specs.declared.Architecture.{Architecture}
 use Rattle.architecture.specs.Struct.{IsProper, processIn, firstIn, entriesOf}
 use Rattle.architecture.proofs.Processes.{facts, row-is, row-pos}
-use Rattle.text.proofs.Rows.{row-within}
+use Rattle.text.proofs.RowTexts.{row-within}
 use Rattle.draw.proofs.draw_rows.Statement.{statement}
 use Rattle.draw.proofs.draw_rows.Tie as tie
 
@@ -60,7 +60,8 @@ row-at-requires : tie.Need-row-at-requires Inv-loop μ-loop
 row-at-requires c κs = let r = c .before .loop .inv in (r .sized, (r .counts, omega (arith, r .all)))
 
 -- the row lies within the tables
-inside : (c : tie.After-row-at Inv-loop μ-loop) → c .row-at .result + c .before .before .before .before .row-length .result ≤ length (c .before .before .before .before .before .before .before .args .tables .now)
+inside : (c : tie.After-row-at Inv-loop μ-loop)
+    → c .row-at .result + c .before .before .before .before .row-length .result ≤ length (c .before .before .before .before .before .before .before .args .tables .now)
 inside c = omega (arith, c .row-at .ensures, c .before .before .loop .inv .within (c .before .before .loop .x) (c .before .loop-test .taken))
 
 add-end : tie.Need-add-end Inv-loop μ-loop

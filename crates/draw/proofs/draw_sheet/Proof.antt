@@ -1,6 +1,6 @@
 -- `draw::draw_sheet` is safe: a sheet that is read without a refusal is in order.
 use borrow.Author.Needs.{needs}
-use Rattle.sheet.proofs.Sheets.{read-is-proper}
+use Rattle.sheet.proofs.AnswersOfReading.{read-is-proper}
 use Rattle.draw.proofs.draw_sheet.Statement.{statement}
 use Rattle.draw.proofs.draw_sheet.Tie as tie
 

@@ -6,7 +6,7 @@ use borrow.Author.Needs.{needs}
 use Rattle.model.specs.declared.Reply.{Reply}
 use Rattle.model.specs.Calls.{AfterPart, partOf}
 use Rattle.book.specs.Answers.{afterPart}
-use Rattle.book.proofs.Bounds.{Within, part-within}
+use Rattle.book.proofs.PartWithin.{Within, part-within}
 use Rattle.export.specs.After.{partBy}
 use Rattle.export.proofs.soclethyme_part.Statement.{statement}
 use Rattle.export.proofs.soclethyme_part.Tie as tie

@@ -1,11 +1,11 @@
--- `find::answer_text` meets its contract: each answer of find has its text. Assumes nothing.
+-- `find::answer_text` meets its contract: each answer of find has its text.
 use mathlib.Core.Path.{sym, _∙_}
 use Prim.Native.Nat.{ℕ, _≤_}
 use native.Mathlib.Omega.{arith}
 use lib.ListN.{length, length-replicate}
 use borrow.Author.Needs.{needs}
 use Rattle.find.specs.Printed.{book₀, annotation₀}
-use Rattle.find.proofs.Found.{says-refused, says-nothing, left-tables}
+use Rattle.find.proofs.FoundBuffers.{says-refused, says-nothing, left-tables}
 use Rattle.find.proofs.answer_text.Statement.{statement}
 use Rattle.find.proofs.answer_text.Tie as tie
 
@@ -52,10 +52,12 @@ returns : tie.Need-returns
 returns c =
     let f = c .before .before .before .before .before .before .before .find in
     let o = c .before .before .before .outcome .given in
-    rw (says-refused (c .before .before .before .before .before .before .before .before .before .before .before .args .sheet .now) book₀ annotation₀ (rooms .0) (rooms .1) (o .0 .0) (sym (f .ensures .0) ∙ o .1)) (c .refused-text .ensures)
+    rw (says-refused (c .before .before .before .before .before .before .before .before .before .before .before .args .sheet .now) book₀ annotation₀
+    (rooms .0) (rooms .1) (o .0 .0) (sym (f .ensures .0) ∙ o .1)) (c .refused-text .ensures)
 
 returns-2 : tie.Need-returns-2
-returns-2 c = rw (says-nothing (c .before .before .before .before .before .before .before .before .before .before .args .sheet .now) book₀ annotation₀ (rooms .0) (rooms .1) (sym (c .before .before .before .before .before .before .find .ensures .0) ∙ c .before .before .enum-told .given .1)) (c .none-text .ensures)
+returns-2 c = rw (says-nothing (c .before .before .before .before .before .before .before .before .before .before .args .sheet .now) book₀ annotation₀
+    (rooms .0) (rooms .1) (sym (c .before .before .before .before .before .before .find .ensures .0) ∙ c .before .before .enum-told .given .1)) (c .none-text .ensures)
 
 returns-3 : tie.Need-returns-3
 returns-3 c = search needs

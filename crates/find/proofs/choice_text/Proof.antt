@@ -7,10 +7,10 @@ use Rattle.model.specs.RunGraph.{vertices}
 use Rattle.architecture.specs.Struct.{IsProper}
 use Rattle.automaton.specs.Struct.{automatonOf}
 use Rattle.sheet.specs.Struct.{sheetOf}
-use Rattle.sheet.proofs.Sheets.{architecture-proper}
+use Rattle.sheet.proofs.AnswersOfReading.{architecture-proper}
 use Rattle.graph.proofs.Whole.{vertices-few}
 use Rattle.text.specs.Holds.{Holds}
-use Rattle.find.proofs.Found.{Chose, chose, book-whole, annotation-ends, annotation-counted, are-choice, text-is}
+use Rattle.find.proofs.FoundBuffers.{Chose, chose, book-whole, annotation-ends, annotation-counted, are-choice, text-is}
 use Rattle.find.proofs.choice_text.Statement.{statement}
 use Rattle.find.proofs.choice_text.Tie as tie
 
@@ -43,7 +43,8 @@ composed-states-requires : tie.Need-composed-states-requires
 composed-states-requires c κs = whole (entry (c .before .before .before .before .before))
 
 -- how long the annotation is
-vertices-are : (n : tie.After-composed-states) → let s = entry (n .before .before .before .before .before .before) .args .sheet in s .automaton .states * n .composed-states .result ≡ vertices (sheetOf s)
+vertices-are : (n : tie.After-composed-states) → let s = entry (n .before .before .before .before .before .before) .args .sheet in
+    s .automaton .states * n .composed-states .result ≡ vertices (sheetOf s)
 unfolding automatonOf
 vertices-are n = annotation-ends _ _ _ (left (entry (n .before .before .before .before .before .before))) (n .composed-states .result) (n .composed-states .ensures)
 

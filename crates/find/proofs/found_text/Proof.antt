@@ -3,7 +3,7 @@ use borrow.Author.Needs.{needs}
 use Rattle.model.proofs.ProperSheet.{sheet-proper}
 use Rattle.sheet.specs.Struct.{sheetOf}
 use Rattle.find.specs.Printed.{sheetText, printed, book₀, annotation₀}
-use Rattle.find.proofs.Found.{Proper, found-proper}
+use Rattle.find.proofs.FoundBuffers.{Proper, found-proper}
 use Rattle.find.proofs.found_text.Statement.{statement}
 use Rattle.find.proofs.found_text.Tie as tie
 

@@ -1,4 +1,4 @@
--- `find::main` meets its contract. Assumes nothing.
+-- `find::main` is safe: the text is whole, so that its length lies within the buffer.
 use mathlib.Core.Path.{ap}
 use native.Mathlib.Omega.{arith}
 use lib.ListN.{length}

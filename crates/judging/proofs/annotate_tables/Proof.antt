@@ -13,7 +13,7 @@ use Rattle.model.specs.Reading.{refused, proper}
 use Rattle.model.specs.RunGraph.{vertices}
 use Rattle.model.specs.Computed.{loops}
 use Rattle.model.specs.Calls.{front, annotationShort, annotatedBy, annotated, roomFor}
-use Rattle.model.proofs.Loops.{loops-exactly}
+use Rattle.model.proofs.ComputedTests.{loops-exactly}
 use Rattle.sheet.specs.Struct.{sheetOf}
 use Rattle.model.proofs.Refusing.{stop, go}
 use Rattle.annotation.specs.declared.Answer.{Answer}

@@ -25,6 +25,7 @@ abbrev μ-loop : tie.MeasureT-loop
 abbrev turn : tie.After-slice-known2 Inv-loop μ-loop → tie.In-loop Inv-loop μ-loop
 turn c = c .before .before .before .before
 
+-- `while i < n`
 loop-holds : tie.Need-loop-holds Inv-loop μ-loop
 unfolding form architectureOf
 loop-holds c = (omega arith, appending-none _ _ _)
@@ -42,15 +43,19 @@ module _ (c : tie.At-loop Inv-loop μ-loop) where
 next : (c : tie.In-loop Inv-loop μ-loop) → let a = entry (c .before) .args .a in let i = c .before .loop .i in Opens (formFrom a i) (processCodes a i) (formFrom a (i + 1))
 next c = form-open (entry (c .before) .args .a) (c .before .loop .i) (c .loop-test .taken)
 
+-- `at = put_records(slots, at, a, i)`
 put-records-requires : tie.Need-put-records-requires Inv-loop μ-loop
 put-records-requires c κs = let l = c .before .before in (entry l .pre .0, (c .before .loop-test .taken, appending-room (l .loop .inv .1) (room l) (next (c .before))))
 
+-- `i += 1`
 add-i : tie.Need-add-i Inv-loop μ-loop
 add-i c = omega (arith, turn c .loop-test .taken, entry (turn c .before) .pre .0 .arrays .few-processes)
 
+-- `while i < n`
 loop-less : tie.Need-loop-less Inv-loop μ-loop
 loop-less c = omega (arith, turn c .loop-test .taken)
 
+-- `while i < n`
 loop-again : tie.Need-loop-again Inv-loop μ-loop
 loop-again c = (omega (arith, turn c .loop-test .taken), appending-next (turn c .before .loop .inv .1) (next (turn c)) (c .before .before .put-records .ensures))
 
@@ -63,21 +68,27 @@ module _ (c : tie.After-loop Inv-loop μ-loop) where
   room-last : c .before .loop .at + 2 ≤ length (c .before .loop .slots)
   room-last = appending-room (c .before .loop .inv .1) (room (c .before)) due-last
 
+-- `let within_end = append::word(slots, at, due(sheet::EN[0]))`
 array-read-due : tie.Need-array-read-due Inv-loop μ-loop
 array-read-due c = search needs
 
+-- `let within_end = append::word(slots, at, due(sheet::EN[0]))`
 due-requires : tie.Need-due-requires Inv-loop μ-loop
 due-requires c κs = search needs
 
+-- `let within_end = append::word(slots, at, due(sheet::EN[0]))`
 word-requires : tie.Need-word-requires Inv-loop μ-loop
 word-requires c κs = omega (arith, room-last (c .before .before))
 
+-- `append::word(slots, within_end, due(sheet::EN[1]))`
 array-read-due-2 : tie.Need-array-read-due-2 Inv-loop μ-loop
 array-read-due-2 c = search needs
 
+-- `append::word(slots, within_end, due(sheet::EN[1]))`
 due-requires-2 : tie.Need-due-requires-2 Inv-loop μ-loop
 due-requires-2 c κs = search needs
 
+-- `append::word(slots, within_end, due(sheet::EN[1]))`
 word-requires-2 : tie.Need-word-requires-2 Inv-loop μ-loop
 word-requires-2 c κs =
     let first = c .before .before .before .before in
@@ -101,9 +112,11 @@ module _ (c : tie.After-slice-known4 Inv-loop μ-loop) where
       let two = append-more (first .word .ensures) (last .word2 .ensures) in
       appending-all (appending-next (ended .before .loop .inv .1) (due-last ended) (rw (← first .before .due .ensures, ← last .before .due2 .ensures) two))
 
+-- `append::word(slots, within_end, due(sheet::EN[1]))`
 same-length : tie.Need-same-length Inv-loop μ-loop
 same-length c = append-length (whole c) (omega (arith, whole c .ends, room (ended c .before)))
 
+-- `append::word(slots, within_end, due(sheet::EN[1]))`
 returns : tie.Need-returns Inv-loop μ-loop
 unfolding bookLength
 returns c =

@@ -29,15 +29,19 @@ abbrev μ-loop : tie.MeasureT-loop
 abbrev turn : tie.After-slice-known2 Inv-loop μ-loop → tie.In-loop Inv-loop μ-loop
 turn c = c .before .before .before .before
 
+-- `let row = architecture::row_length(a.inputs_of(i))`
 inputs-of-requires : tie.Need-inputs-of-requires Inv-loop μ-loop
 inputs-of-requires c κs = (c .before .pre .0, c .before .pre .1 .0)
 
+-- `let row = architecture::row_length(a.inputs_of(i))`
 row-length-requires : tie.Need-row-length-requires Inv-loop μ-loop
 row-length-requires c κs = search needs
 
+-- `let bound = a.bound_of(i)`
 bound-of-requires : tie.Need-bound-of-requires Inv-loop μ-loop
 bound-of-requires c κs = (c .before .before .before .pre .0, c .before .before .before .pre .1 .0)
 
+-- `while x < bound`
 loop-holds : tie.Need-loop-holds Inv-loop μ-loop
 loop-holds c p er eb = let z : p .bound - 0 ≡ p .bound = omega arith in rw z (appending-none _ _ _)
 
@@ -71,6 +75,7 @@ module _ (c : tie.In-loop Inv-loop μ-loop) (q : Process) (er : c .before .befor
       Opens (map slotCode (records i q (q .bound - x) x)) (recordCodes i x (c .before .before .before .row-length .result)) (map slotCode (records i q (q .bound - (x + 1)) (x + 1)))
   next = records-open (entry (c .before) .args .i) q (q .bound) (c .before .loop .x) _ er inside
 
+-- `at = put_record(slots, at, i, x, row)`
 put-record-requires : tie.Need-put-record-requires Inv-loop μ-loop
 put-record-requires c κs =
     let l = c .before .before in
@@ -79,18 +84,23 @@ put-record-requires c κs =
       (omega (arith, entry l .pre .1 .0, entry l .pre .0 .arrays .few-processes), omega (arith, inside (c .before) (p l) (row-known l) (l .before .bound-of .ensures), few l)),
     )
 
+-- `x += 1`
 add-x : tie.Need-add-x Inv-loop μ-loop
 add-x c = omega (arith, turn c .loop-test .taken, turn c .before .before .bound-of .ok)
 
+-- `while x < bound`
 loop-less : tie.Need-loop-less Inv-loop μ-loop
 loop-less c = omega (arith, turn c .loop-test .taken)
 
+-- `while x < bound`
 loop-again : tie.Need-loop-again Inv-loop μ-loop
 loop-again c q er eb = appending-next (turn c .before .loop .inv q er eb) (next (turn c) q er eb) (c .before .before .put-record .ensures)
 
+-- `at`
 same-length : tie.Need-same-length Inv-loop μ-loop
 same-length c = appending-length (so-far (c .before)) (entry (c .before) .pre .1 .1)
 
+-- `at`
 returns : tie.Need-returns Inv-loop μ-loop
 unfolding records
 returns c =

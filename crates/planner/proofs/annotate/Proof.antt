@@ -3,7 +3,7 @@ use mathlib.Core.Path.{refl}
 use borrow.Author.Needs.{needs}
 use Rattle.model.specs.Reading.{_then_}
 use Rattle.model.specs.Calls.{bookAndRoom, annotated, annotateOf}
-use Rattle.planner.proofs.Sheets.{refusal-is, sheet-is, proper-is}
+use Rattle.planner.proofs.ReadSheet.{refusal-is, sheet-is, proper-is}
 use Rattle.planner.proofs.annotate.Statement.{statement}
 use Rattle.planner.proofs.annotate.Tie as tie
 
@@ -38,7 +38,8 @@ unfolding annotateOf bookAndRoom _then_
 returns-2 c =
     let a = c .before .before .before .before .before .before .before .before .before .before .before .args in
     let r = c .before .before .before .before .before .before .before .read in
-    rw (sheet-is (a .sheet .now) (r .result) (r .ensures .0) (c .before .before .before .before .before .enum-told .given .1)) (c .before .before .annotate-for .ensures .0, c .before .before .annotate-for .ensures .1)
+    rw (sheet-is (a .sheet .now) (r .result) (r .ensures .0) (c .before .before .before .before .before .enum-told .given .1))
+    (c .before .before .annotate-for .ensures .0, c .before .before .annotate-for .ensures .1)
 
 pub annotate-spec : {M : Type 1} → statement M
 annotate-spec =

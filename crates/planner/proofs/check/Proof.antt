@@ -1,8 +1,8 @@
--- `planner::check` meets its contract: the answer is that of the reading. Assumes nothing.
+-- `planner::check` meets its contract: the answer is that of the reading.
 use mathlib.Core.Path.{sym, ap, _∙_}
 use borrow.Author.Needs.{needs}
 use Rattle.model.specs.Calls.{reply, checkOf}
-use Rattle.sheet.proofs.Sheets.{answer-is}
+use Rattle.sheet.proofs.AnswersOfReading.{answer-is}
 use Rattle.planner.proofs.check.Statement.{statement}
 use Rattle.planner.proofs.check.Tie as tie
 

@@ -3,7 +3,7 @@ use mathlib.Core.Path.{refl}
 use borrow.Author.Needs.{needs}
 use Rattle.model.specs.Reading.{_then_}
 use Rattle.model.specs.Calls.{findSheet, findIn, findOf}
-use Rattle.planner.proofs.Sheets.{refusal-is, sheet-is, proper-is}
+use Rattle.planner.proofs.ReadSheet.{refusal-is, sheet-is, proper-is}
 use Rattle.planner.proofs.find.Statement.{statement}
 use Rattle.planner.proofs.find.Tie as tie
 

@@ -2,7 +2,7 @@
 use borrow.Author.Needs.{needs}
 use Rattle.model.specs.Reading.{_then_}
 use Rattle.model.specs.Calls.{bookAndRoom, judged, judgeOf}
-use Rattle.planner.proofs.Sheets.{refusal-is, sheet-is, proper-is}
+use Rattle.planner.proofs.ReadSheet.{refusal-is, sheet-is, proper-is}
 use Rattle.planner.proofs.judge.Statement.{statement}
 use Rattle.planner.proofs.judge.Tie as tie
 

@@ -1,9 +1,9 @@
--- `planner::part` meets its contract: the part lies within the book. Assumes nothing.
+-- `planner::part` meets its contract: `range` has its numbers, and a part of a proper book lies within the book.
 use mathlib.Core.Path.{ap}
 use borrow.Author.Needs.{needs}
 use Rattle.model.specs.Calls.{AfterPart, part}
 use Rattle.book.specs.Answers.{afterPart}
-use Rattle.book.proofs.Bounds.{Within, part-within}
+use Rattle.book.proofs.PartWithin.{Within, part-within}
 use Rattle.planner.proofs.part.Statement.{statement}
 use Rattle.planner.proofs.part.Tie as tie
 

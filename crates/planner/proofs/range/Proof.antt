@@ -2,8 +2,8 @@
 use borrow.Author.Needs.{needs}
 use Rattle.model.specs.Reading.{_then_}
 use Rattle.model.specs.Calls.{cut, partArchitecture, partOf}
-use Rattle.sheet.proofs.Sheets.{architecture-proper}
-use Rattle.planner.proofs.Sheets.{refusal-is, sheet-is, proper-is}
+use Rattle.sheet.proofs.AnswersOfReading.{architecture-proper}
+use Rattle.planner.proofs.ReadSheet.{refusal-is, sheet-is, proper-is}
 use Rattle.planner.proofs.range.Statement.{statement}
 use Rattle.planner.proofs.range.Tie as tie
 

@@ -3,8 +3,8 @@ use mathlib.Core.Path.{refl}
 use borrow.Author.Needs.{needs}
 use Rattle.model.specs.Reading.{_then_}
 use Rattle.model.specs.Calls.{wrote, written, writeOf}
-use Rattle.sheet.proofs.Sheets.{architecture-proper}
-use Rattle.planner.proofs.Sheets.{refusal-is, sheet-is, proper-is}
+use Rattle.sheet.proofs.AnswersOfReading.{architecture-proper}
+use Rattle.planner.proofs.ReadSheet.{refusal-is, sheet-is, proper-is}
 use Rattle.planner.proofs.write.Statement.{statement}
 use Rattle.planner.proofs.write.Tie as tie
 

@@ -1,19 +1,23 @@
 -- `sheet::read` meets its contract: a front that was refused is the sheet's refusal, and behind any other the automaton decides.
 use borrow.Author.Needs.{needs}
-use Rattle.sheet.proofs.Sheets.{front-refused, front-done}
+use Rattle.sheet.proofs.AnswersOfReading.{front-refused, front-done}
 use Rattle.sheet.proofs.ReadingOn.{sheet-refused, sheet-behind}
 use Rattle.sheet.proofs.read.Statement.{statement}
 use Rattle.sheet.proofs.read.Tie as tie
 
+-- `let front = read_front(sheet)`
 read-front-requires : tie.Need-read-front-requires
 read-front-requires c κs = search needs
 
+-- `let automaton = Automaton::opened(0, 0, 0)`
 enum-told : tie.Need-enum-told
 enum-told c = search needs
 
+-- `let automaton = Automaton::opened(0, 0, 0)`
 opened-requires : tie.Need-opened-requires
 opened-requires c κs = search needs
 
+-- `return Reading`
 returns : tie.Need-returns
 returns c =
     let told = c .before .enum-told .given in
@@ -21,12 +25,15 @@ returns c =
     let refused = front-refused _ (f .result .answer) (f .result .architecture) (f .result .end) (f .ensures .0) (told .0 .0) (told .1) in
     (sheet-refused _ _ (f .result .answer) (told .0 .0) (told .1) refused, record { architecture = f .ensures .1 .arrays; automaton = c .opened .ensures .1 .0 })
 
+-- `let automaton = Automaton::opened(0, 0, 0)`
 enum-told-2 : tie.Need-enum-told-2
 enum-told-2 c = search needs
 
+-- `let behind = read_automaton(sheet, front)`
 read-automaton-requires : tie.Need-read-automaton-requires
 read-automaton-requires c κs = search needs
 
+-- `Reading`
 returns-2 : tie.Need-returns-2
 returns-2 c =
     let told = c .before .before .enum-told2 .given in

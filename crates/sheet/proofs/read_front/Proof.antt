@@ -12,8 +12,8 @@ use Rattle.model.specs.Reading.{short, arFault, architectureAt, readProcesses, 
 use Rattle.architecture.specs.Struct.{architectureOf}
 use Rattle.sheet.specs.Struct.{FrontKnown}
 use Rattle.model.proofs.Refusing.{stop, go}
-use Rattle.sheet.proofs.Tests.{fails, passes, too-few, enough}
-use Rattle.sheet.proofs.Sheets.{front-proper}
+use Rattle.sheet.proofs.RefusalTests.{fails, passes, too-few, enough}
+use Rattle.sheet.proofs.AnswersOfReading.{front-proper}
 use Rattle.architecture.proofs.Processes.{count-is}
 use Rattle.sheet.proofs.ReadingOn.{opening, front-is}
 use Rattle.sheet.proofs.read_front.Statement.{statement}
@@ -56,25 +56,31 @@ sound : (c : tie.Else4) → arFault (architectureAt (bytes (opening-at (fields (
 sound c = sym (c .before .ar-fault .ensures) ∙ c .if4 .left
 
 -- ---- the needs
+-- `let nothing = opened(0, 0, 0, 0)`
 opened-requires : tie.Need-opened-requires
 unfolding arFault
 opened-requires c κs = refl
 
+-- `return refuse(Refusal::SheetTooShort, nothing)`
 refuse-requires : tie.Need-refuse-requires
 refuse-requires c κs = search needs
 
+-- `return refuse(Refusal::SheetTooShort, nothing)`
 returns : tie.Need-returns
 returns c =
     let o = c .before .before in
     let b = bytes o in
     (c .refuse .ensures .0 ∙ sym (front-is b ∙ stop _ _ (too-few b 0 2 (omega (arith, c .before .if1 .taken)))), c .refuse .ensures .1 b (nothing o))
 
+-- `if !is_marked(sheet, 0, &AR)`
 is-marked-requires : tie.Need-is-marked-requires
 is-marked-requires c κs = search needs
 
+-- `return refuse(Refusal::WrongMark, nothing)`
 refuse-requires-2 : tie.Need-refuse-requires-2
 refuse-requires-2 c κs = search needs
 
+-- `return refuse(Refusal::WrongMark, nothing)`
 returns-2 : tie.Need-returns-2
 returns-2 c =
     let w = c .before .before .before .before in
@@ -83,30 +89,38 @@ returns-2 c =
       c .refuse2 .ensures .1 b (nothing (w .before)),
     )
 
+-- `return refuse(Refusal::SheetTooShort, nothing)`
 refuse-requires-3 : tie.Need-refuse-requires-3
 refuse-requires-3 c κs = search needs
 
+-- `return refuse(Refusal::SheetTooShort, nothing)`
 returns-3 : tie.Need-returns-3
 returns-3 c =
     let m = c .before .before in
     let o = reading m .before in
     (c .refuse3 .ensures .0 ∙ sym (opens m ∙ stop _ _ (too-few (bytes o) 0 5 (omega (arith, c .before .if3 .taken)))), c .refuse3 .ensures .1 (bytes o) (nothing o))
 
+-- `let variables = sheet[2]`
 shared-slice-read-variables : tie.Need-shared-slice-read-variables
 shared-slice-read-variables c = search needs
 
+-- `let environment = sheet[3]`
 shared-slice-read-environment : tie.Need-shared-slice-read-environment
 shared-slice-read-environment c = search needs
 
+-- `let root = sheet[4]`
 shared-slice-read-root : tie.Need-shared-slice-read-root
 shared-slice-read-root c = search needs
 
+-- `if ar_fault(variables, environment, root)`
 ar-fault-requires : tie.Need-ar-fault-requires
 ar-fault-requires c κs = search needs
 
+-- `return refuse(Refusal::BadArchitecture, nothing)`
 refuse-requires-4 : tie.Need-refuse-requires-4
 refuse-requires-4 c κs = search needs
 
+-- `return refuse(Refusal::BadArchitecture, nothing)`
 returns-4 : tie.Need-returns-4
 returns-4 c =
     let d = fields (c .before .before) in
@@ -115,6 +129,7 @@ returns-4 c =
       c .refuse4 .ensures .1 (bytes o) (nothing o),
     )
 
+-- `read_processes(sheet, opened(variables, environment, root, 5))`
 opened-requires-2 : tie.Need-opened-requires-2
 opened-requires-2 c κs = sound c
 
@@ -123,6 +138,7 @@ first : (c : tie.After-opened2) → let f = c .opened2 .result in let b = bytes 
     (f .answer ≡ Reply.Done) × (architectureOf (f .architecture) ≡ architectureAt b) × (f .end ≡ 5)
 first c = let f = c .opened2 .result in front-proper (f .answer) (f .architecture) (f .end) _ (c .opened2 .ensures .0)
 
+-- `read_processes(sheet, opened(variables, environment, root, 5))`
 read-processes-requires : tie.Need-read-processes-requires
 read-processes-requires c κs =
     let d = fields (c .before .before) in
@@ -130,6 +146,7 @@ read-processes-requires c κs =
     let none : c .opened2 .result .architecture .processes ≡ 0 = omega (arith, count-is (c .opened2 .result .architecture), ap (λ (a : Architecture). length (a .processes)) (f .1)) in
     (c .opened2 .ensures .1 (bytes (opening-at d)) (omega (arith, d .if3 .left)), (f .0, none))
 
+-- `read_processes(sheet, opened(variables, environment, root, 5))`
 returns-5 : tie.Need-returns-5
 returns-5 c =
     let o = c .before in

@@ -12,7 +12,7 @@ use Rattle.model.proofs.Refusing.{stop, go}
 use Rattle.architecture.specs.Struct.{IsProper}
 use Rattle.automaton.specs.Struct.{automatonOf}
 use Rattle.sheet.specs.Struct.{sheetOf}
-use Rattle.sheet.proofs.Sheets.{architecture-proper}
+use Rattle.sheet.proofs.AnswersOfReading.{architecture-proper}
 use Rattle.graph.proofs.Whole.{vertices-few}
 use Rattle.synthesis.proofs.check_room.Statement.{statement}
 use Rattle.synthesis.proofs.check_room.Tie as tie
@@ -34,7 +34,8 @@ returns : tie.Need-returns
 unfolding reply roomToFind bookShort
 returns c =
     let a = entry (c .before .before) .args in
-    let e : roomToFind (sheetOf (a .sheet)) (a .book .now) (a .annotation .now) ≡ refused BookBufferTooShort = stop _ _ (lt-ltb _ _ (rw (c .before .before .fill-slots .ensures .0 .0) at (c .if1 .taken))) in
+    let e : roomToFind (sheetOf (a .sheet)) (a .book .now) (a .annotation .now) ≡ refused BookBufferTooShort =
+    stop _ _ (lt-ltb _ _ (rw (c .before .before .fill-slots .ensures .0 .0) at (c .if1 .taken))) in
     rw e
 
 cast-vertices : tie.Need-cast-vertices
@@ -53,7 +54,8 @@ mul-vertices c = omega (arith, annotation-long c, vertices-few _ (entry (c .befo
 
 -- there is room for the book
 book-fits : (c : tie.Else1) → let a = entry (c .before .before) .args in
-    roomToFind (sheetOf (a .sheet)) (a .book .now) (a .annotation .now) ≡ (refuse AnnotationBufferTooShort when annotationShort (sheetOf (a .sheet)) (a .annotation .now) else proper (sheetOf (a .sheet)))
+    roomToFind (sheetOf (a .sheet)) (a .book .now) (a .annotation .now)
+    ≡ (refuse AnnotationBufferTooShort when annotationShort (sheetOf (a .sheet)) (a .annotation .now) else proper (sheetOf (a .sheet)))
 unfolding roomToFind bookShort
 book-fits c = go _ _ (le-ltb _ _ (rw (c .before .before .fill-slots .ensures .0 .0) at (c .if1 .left)))
 
@@ -61,14 +63,16 @@ returns-2 : tie.Need-returns-2
 unfolding reply annotationShort
 returns-2 c =
     let a = entry (c .before .before .before .before .before) .args in
-    let e : roomToFind (sheetOf (a .sheet)) (a .book .now) (a .annotation .now) ≡ refused AnnotationBufferTooShort = book-fits (c .before .before .before) ∙ stop _ _ (lt-ltb _ _ (rw (annotation-long (c .before)) at (c .if2 .taken))) in
+    let e : roomToFind (sheetOf (a .sheet)) (a .book .now) (a .annotation .now) ≡ refused AnnotationBufferTooShort =
+    book-fits (c .before .before .before) ∙ stop _ _ (lt-ltb _ _ (rw (annotation-long (c .before)) at (c .if2 .taken))) in
     rw e
 
 returns-3 : tie.Need-returns-3
 unfolding reply annotationShort
 returns-3 c =
     let a = entry (c .before .before .before .before .before) .args in
-    let e : roomToFind (sheetOf (a .sheet)) (a .book .now) (a .annotation .now) ≡ proper (sheetOf (a .sheet)) = book-fits (c .before .before .before) ∙ go _ _ (le-ltb _ _ (rw (annotation-long (c .before)) at (c .if2 .left))) in
+    let e : roomToFind (sheetOf (a .sheet)) (a .book .now) (a .annotation .now) ≡ proper (sheetOf (a .sheet)) = book-fits (c .before .before .before)
+    ∙ go _ _ (le-ltb _ _ (rw (annotation-long (c .before)) at (c .if2 .left))) in
     rw e
 
 pub check-room-spec : {M : Type 1} → statement M

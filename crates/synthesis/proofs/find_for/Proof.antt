@@ -6,7 +6,7 @@ use Rattle.model.specs.Calls.{findIn, findChoice, roomToFind}
 use Rattle.sheet.specs.Struct.{sheetOf}
 use Rattle.search.specs.declared.Searched.{Searched}
 use Rattle.search.specs.Says.{Leads}
-use Rattle.synthesis.proofs.Room.{no-room, some-room}
+use Rattle.synthesis.proofs.RoomDecides.{no-room, some-room}
 use Rattle.synthesis.proofs.find_for.Statement.{statement}
 use Rattle.synthesis.proofs.find_for.Tie as tie
 
@@ -33,14 +33,16 @@ enum-told : tie.Need-enum-told
 enum-told c = search needs
 
 -- there is room
-room-is : (c : tie.After-enum-told) → let a = c .before .before .before .before .before .before .before .args in roomToFind (sheetOf (a .sheet)) (a .book .now) (a .annotation .now) ≡ proper (sheetOf (a .sheet))
+room-is : (c : tie.After-enum-told) → let a = c .before .before .before .before .before .before .before .args in
+    roomToFind (sheetOf (a .sheet)) (a .book .now) (a .annotation .now) ≡ proper (sheetOf (a .sheet))
 room-is c = some-room _ _ _ (sym (c .enum-told .given .1) ∙ c .before .before .check-room .ensures)
 
 first-tables-requires : tie.Need-first-tables-requires
 first-tables-requires c κs = search needs
 
 -- what the search says, by its answer
-leads : (c : tie.After-first-tables) (r : Searched) → c .first-tables .result ≡ r → Leads (sheetOf (c .before .before .before .before .before .before .before .before .before .args .sheet)) (c .first-tables .last .0) r
+leads : (c : tie.After-first-tables) (r : Searched) → c .first-tables .result ≡ r
+    → Leads (sheetOf (c .before .before .before .before .before .before .before .before .before .args .sheet)) (c .first-tables .last .0) r
 leads c r e = subst (Leads (sheetOf (c .before .before .before .before .before .before .before .before .before .args .sheet)) (c .first-tables .last .0)) e (c .first-tables .ensures)
 
 enum-told-2 : tie.Need-enum-told-2
@@ -51,8 +53,13 @@ enum-told-3 c = search needs
 
 put-found-requires : tie.Need-put-found-requires
 put-found-requires c κs =
-    let b = c .before .before .before .before .before .before .before .before .before .before .before .before .before .before in
-    (b .pre, (leads (c .before .before .before .before .before) Searched.Tables (c .before .before .before .enum-told3 .given .1) .0, room-is (c .before .before .before .before .before .before .before)))
+    let b = c .before .before .before .before .before .before .before .before .before .before .before .before .before .before in (
+      b .pre,
+      (
+        leads (c .before .before .before .before .before) Searched.Tables (c .before .before .before .enum-told3 .given .1) .0,
+        room-is (c .before .before .before .before .before .before .before),
+      ),
+    )
 
 same-length-3 : tie.Need-same-length-3
 same-length-3 c = search needs
@@ -74,7 +81,11 @@ returns-3 : tie.Need-returns-3
 unfolding findIn findChoice
 returns-3 c =
     let f = c .before .before .before .before .put-found .ensures in
-    rw (room-is (c .before .before .before .before .before .before .before .before .before .before .before .before), leads (c .before .before .before .before .before .before .before .before .before .before) Searched.Tables (c .before .before .before .before .before .before .before .before .enum-told3 .given .1) .1) (refl, (f .0, f .1))
+    rw (
+      room-is (c .before .before .before .before .before .before .before .before .before .before .before .before),
+      leads (c .before .before .before .before .before .before .before .before .before .before) Searched.Tables
+          (c .before .before .before .before .before .before .before .before .enum-told3 .given .1) .1,
+    ) (refl, (f .0, f .1))
 
 pub find-for-spec : {M : Type 1} → statement M
 find-for-spec =

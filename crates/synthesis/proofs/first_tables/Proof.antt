@@ -4,7 +4,7 @@ use native.Mathlib.Omega.{arith}
 use lib.ListN.{length}
 use borrow.Author.Needs.{needs}
 use Rattle.architecture.specs.Struct.{architectureOf}
-use Rattle.sheet.proofs.Sheets.{architecture-proper}
+use Rattle.sheet.proofs.AnswersOfReading.{architecture-proper}
 use Rattle.search.specs.Search.{Kinds}
 use Rattle.synthesis.proofs.first_tables.Statement.{statement}
 use Rattle.synthesis.proofs.first_tables.Tie as tie

@@ -3,8 +3,8 @@ use mathlib.Core.Path.{_∙_}
 use borrow.Author.Needs.{needs}
 use Rattle.model.specs.Calls.{wrote}
 use Rattle.sheet.specs.Struct.{sheetOf}
-use Rattle.sheet.proofs.Sheets.{architecture-proper}
-use Rattle.synthesis.proofs.Room.{book-written, annotation-written}
+use Rattle.sheet.proofs.AnswersOfReading.{architecture-proper}
+use Rattle.synthesis.proofs.RoomDecides.{book-written, annotation-written}
 use Rattle.synthesis.proofs.put_found.Statement.{statement}
 use Rattle.synthesis.proofs.put_found.Tie as tie
 

@@ -6,7 +6,7 @@ use native.Mathlib.Omega.{arith}
 use lib.ListN.{length, length-append}
 use Rattle.text.specs.Text.{digit, decimal}
 use Rattle.append.proofs.Appended.{append-more}
-use Rattle.text.proofs.Numbers.{decimal-few, decimal-more}
+use Rattle.text.proofs.DecimalLaws.{decimal-few, decimal-more}
 use borrow.Fn.Kinds.{In, Out}
 use borrow.Fn.PlainCycle.{Measures, is, falls, and}
 use Rattle.text.proofs.put_decimal.Reads as put-decimal

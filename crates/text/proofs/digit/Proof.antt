@@ -6,16 +6,20 @@ use Rattle.text.specs.Text as spec
 use Rattle.text.proofs.digit.Statement.{statement}
 use Rattle.text.proofs.digit.Tie as tie
 
+-- `return b'0' + d`
 add-result : tie.Need-add-result
 add-result c = search needs
 
+-- `return b'0' + d`
 returns : tie.Need-returns
 unfolding spec.digit if
 returns c = rw (lt-ltb _ 10 (c .if1 .taken))
 
+-- `b'A' + (d - 10)`
 add-result-2 : tie.Need-add-result-2
 add-result-2 c = search needs
 
+-- `b'A' + (d - 10)`
 returns-2 : tie.Need-returns-2
 unfolding spec.digit if
 returns-2 c = rw (le-ltb _ 10 (c .if1 .left))

@@ -6,14 +6,17 @@ use Rattle.text.specs.Text.{unblank}
 use Rattle.text.proofs.greater.Statement.{statement}
 use Rattle.text.proofs.greater.Tie as tie
 
+-- `return most`
 returns : tie.Need-returns
 unfolding unblank if
 returns c = rw (eq-eqb _ 65535 (c .if1 .taken)) (omega arith)
 
+-- `return most`
 returns-2 : tie.Need-returns-2
 unfolding unblank if
 returns-2 c = rw (ne-eqb _ 65535 (c .before .if1 .left)) (omega arith)
 
+-- `number`
 returns-3 : tie.Need-returns-3
 unfolding unblank if
 returns-3 c = rw (ne-eqb _ 65535 (c .before .if1 .left)) (omega arith)

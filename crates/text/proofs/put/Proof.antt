@@ -4,15 +4,19 @@ use Rattle.append.proofs.Appended.{append-one}
 use Rattle.text.proofs.put.Statement.{statement}
 use Rattle.text.proofs.put.Tie as tie
 
+-- `text[at] = byte`
 slice-write-text : tie.Need-slice-write-text
 slice-write-text c = search needs
 
+-- `at + 1`
 add-result : tie.Need-add-result
 add-result c = search needs
 
+-- `at + 1`
 same-length : tie.Need-same-length
 same-length c = search needs
 
+-- `at + 1`
 returns : tie.Need-returns
 returns c = append-one (c .args .text .now) (c .args .at) (c .args .byte) c.pre
 

@@ -6,19 +6,23 @@ use Rattle.append.proofs.Appended.{append-more}
 use Rattle.text.proofs.put_field.Statement.{statement}
 use Rattle.text.proofs.put_field.Tie as tie
 
+-- `let next = put(text, at, b' ')`
 put-requires : tie.Need-put-requires
 unfolding field
 put-requires c κs = omega (arith, c .before .before .pre)
 
+-- `put_decimal(text, next, n)`
 put-decimal-requires : tie.Need-put-decimal-requires
 unfolding field
 put-decimal-requires c κs =
     let space = c .before .before .before in
     omega (arith, space .before .before .before .pre, space .put .ensures .ends, space .put .kept .0)
 
+-- `put_decimal(text, next, n)`
 same-length : tie.Need-same-length
 same-length c = search needs
 
+-- `put_decimal(text, next, n)`
 returns : tie.Need-returns
 unfolding field
 returns c = append-more (c .before .before .before .before .before .before .put .ensures) (c .before .before .put-decimal .ensures)

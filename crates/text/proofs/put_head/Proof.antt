@@ -17,20 +17,24 @@ process c = c .before .before .before .before
 abbrev state : tie.After-put → tie.After-put-field
 state c = c .before .before .before .before
 
+-- `let after_process = put_decimal(text, at, i)`
 put-decimal-requires : tie.Need-put-decimal-requires
 put-decimal-requires c κs = omega (arith, simp length-append at (c .before .before .pre))
 
+-- `let after_state = put_field(text, after_process, x)`
 put-field-requires : tie.Need-put-field-requires
 put-field-requires c κs =
     let p = c .before .before .before in
     omega (arith, simp length-append at (entry p .pre), p .put-decimal .ensures .ends, p .put-decimal .kept .0)
 
+-- `let after_space = put(text, after_state, b' ')`
 put-requires : tie.Need-put-requires
 put-requires c κs =
     let s = c .before .before .before in
     let p = process s in
     omega (arith, simp length-append at (entry p .pre), p .put-decimal .ensures .ends, p .put-decimal .kept .0, s .put-field .ensures .ends, s .put-field .kept .0)
 
+-- `put_hex(text, after_space, mask)`
 put-hex-requires : tie.Need-put-hex-requires
 unfolding hex
 put-hex-requires c κs =
@@ -48,9 +52,11 @@ put-hex-requires c κs =
       space .put .kept .0,
     )
 
+-- `put_hex(text, after_space, mask)`
 same-length : tie.Need-same-length
 same-length c = search needs
 
+-- `put_hex(text, after_space, mask)`
 returns : tie.Need-returns
 returns c =
     let space = c .before .before .before .before .before .before in

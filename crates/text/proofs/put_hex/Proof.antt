@@ -5,21 +5,27 @@ use Rattle.append.proofs.Appended.{append-more}
 use Rattle.text.proofs.put_hex.Statement.{statement}
 use Rattle.text.proofs.put_hex.Tie as tie
 
+-- `let next = put(text, at, digit(mask / 16))`
 digit-requires : tie.Need-digit-requires
 digit-requires c κs = search needs
 
+-- `let next = put(text, at, digit(mask / 16))`
 put-requires : tie.Need-put-requires
 put-requires c κs = search needs
 
+-- `put(text, next, digit(mask % 16))`
 digit-requires-2 : tie.Need-digit-requires-2
 digit-requires-2 c κs = search needs
 
+-- `put(text, next, digit(mask % 16))`
 put-requires-2 : tie.Need-put-requires-2
 put-requires-2 c κs = search needs
 
+-- `put(text, next, digit(mask % 16))`
 same-length : tie.Need-same-length
 same-length c = search needs
 
+-- `put(text, next, digit(mask % 16))`
 returns : tie.Need-returns
 unfolding hex
 returns c =

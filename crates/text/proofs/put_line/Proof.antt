@@ -14,16 +14,19 @@ entry c = c .before .before .before .before
 abbrev word : tie.After-put-decimal → tie.After-put-bytes
 word c = c .before .before .before .before
 
+-- `let after_word = put_bytes(text, at, word)`
 put-bytes-requires : tie.Need-put-bytes-requires
 unfolding line
 put-bytes-requires c κs = omega (arith, simp length-append at (c .before .before .before .pre))
 
+-- `let after_number = put_decimal(text, after_word, n)`
 put-decimal-requires : tie.Need-put-decimal-requires
 unfolding line
 put-decimal-requires c κs =
     let w = c .before .before .before in
     omega (arith, simp length-append at (entry w .pre), w .put-bytes .ensures .ends, w .put-bytes .kept .0)
 
+-- `put(text, after_number, b'\n')`
 put-requires : tie.Need-put-requires
 unfolding line
 put-requires c κs =
@@ -31,9 +34,11 @@ put-requires c κs =
     let w = word n in
     omega (arith, simp length-append at (entry w .pre), w .put-bytes .ensures .ends, w .put-bytes .kept .0, n .put-decimal .ensures .ends, n .put-decimal .kept .0)
 
+-- `put(text, after_number, b'\n')`
 same-length : tie.Need-same-length
 same-length c = search needs
 
+-- `put(text, after_number, b'\n')`
 returns : tie.Need-returns
 unfolding line
 returns c =

@@ -12,7 +12,7 @@ use Rattle.architecture.specs.Struct.{processIn, firstIn, entriesOf}
 use Rattle.architecture.proofs.Processes.{facts, row-is, row-pos}
 use Rattle.append.proofs.Appending.{Appending, Opens, appending-none, appending-next, appending-length, appending-room, appending-all}
 use Rattle.text.specs.Text.{rowText, rowsText}
-use Rattle.text.proofs.Rows.{rowOf, rows-open, rows-end, row-part, row-within}
+use Rattle.text.proofs.RowTexts.{rowOf, rows-open, rows-end, row-part, row-within}
 use Rattle.text.proofs.put_rows.Statement.{statement}
 use Rattle.text.proofs.put_rows.Tie as tie
 
@@ -27,15 +27,19 @@ Inv-loop text₀ start a i tables row bound at₀ x₀ text at x =
 abbrev μ-loop : tie.MeasureT-loop
 μ-loop text₀ start a i tables row bound at₀ x₀ text at x = bound - x
 
+-- `let row = architecture::row_length(a.inputs_of(i))`
 inputs-of-requires : tie.Need-inputs-of-requires Inv-loop μ-loop
 inputs-of-requires c κs = (c .before .before .pre .0, c .before .before .pre .1 .0)
 
+-- `let row = architecture::row_length(a.inputs_of(i))`
 row-length-requires : tie.Need-row-length-requires Inv-loop μ-loop
 row-length-requires c κs = search needs
 
+-- `let bound = a.bound_of(i)`
 bound-of-requires : tie.Need-bound-of-requires Inv-loop μ-loop
 bound-of-requires c κs = (c .before .before .before .before .pre .0, c .before .before .before .before .pre .1 .0)
 
+-- `while x < bound`
 loop-holds : tie.Need-loop-holds Inv-loop μ-loop
 loop-holds c =
     let a = c .before .before .before .before .before .args in
@@ -58,9 +62,11 @@ module _ (c : tie.In-loop Inv-loop μ-loop) where
   few : c .before .loop .x < 4
   few = let b = entry (c .before) in omega (arith, state, facts (b .pre .0) .few-states (b .args .i) (b .pre .1 .0))
 
+-- `let from = a.row_at(i, ProcessState(x as u8))`
 cast-t14 : tie.Need-cast-t14 Inv-loop μ-loop
 cast-t14 c = omega (arith, few c)
 
+-- `let from = a.row_at(i, ProcessState(x as u8))`
 row-at-requires : tie.Need-row-at-requires Inv-loop μ-loop
 row-at-requires c κs = let b = entry (c .before) in (b .pre .0, (b .pre .1 .0, state c))
 
@@ -102,18 +108,23 @@ module _ (c : tie.After-row-at Inv-loop μ-loop) where
       Opens (rowsFrom (a .a) (a .i) (a .tables .now) x) (rowText (a .i) x part) (rowsFrom (a .a) (a .i) (a .tables .now) (x + 1))
   next = rows-open (start .args .i) (p (c .before)) first (start .args .tables .now) (p (c .before) .bound) (c .before .before .loop .x) part part-known (state (c .before))
 
+-- `let end = from + row`
 add-end : tie.Need-add-end Inv-loop μ-loop
 add-end c = omega (arith, inside c, start c .good)
 
+-- `at = put_row(text, at, i, x, &tables[from..end])`
 sub-put-row : tie.Need-sub-put-row Inv-loop μ-loop
 sub-put-row c = omega arith
 
+-- `at = put_row(text, at, i, x, &tables[from..end])`
 part-put-row-start : tie.Need-part-put-row-start Inv-loop μ-loop
 part-put-row-start c = omega arith
 
+-- `at = put_row(text, at, i, x, &tables[from..end])`
 part-put-row-end : tie.Need-part-put-row-end Inv-loop μ-loop
 part-put-row-end c = inside (c .before)
 
+-- `at = put_row(text, at, i, x, &tables[from..end])`
 put-row-requires : tie.Need-put-row-requires Inv-loop μ-loop
 put-row-requires c κs =
     let r = c .before .before in
@@ -126,18 +137,23 @@ put-row-requires c κs =
 abbrev turn : tie.After-slice-known2 Inv-loop μ-loop → tie.In-loop Inv-loop μ-loop
 turn c = c .before .before .before .before .before .before
 
+-- `x += 1`
 add-x : tie.Need-add-x Inv-loop μ-loop
 add-x c = omega (arith, few (turn c))
 
+-- `while x < bound`
 loop-less : tie.Need-loop-less Inv-loop μ-loop
 loop-less c = omega (arith, turn c .loop-test .taken)
 
+-- `while x < bound`
 loop-again : tie.Need-loop-again Inv-loop μ-loop
 loop-again c = appending-next (turn c .before .loop .inv) (next (c .before .before .before .before .before)) (c .before .before .put-row .ensures)
 
+-- `at`
 same-length : tie.Need-same-length Inv-loop μ-loop
 same-length c = appending-length (c .before .loop .inv) (entry (c .before) .pre .1 .1 .1)
 
+-- `at`
 returns : tie.Need-returns Inv-loop μ-loop
 returns c =
     let l = c .before in

@@ -5,7 +5,7 @@ use lib.ListN.{getD}
 use Rattle.architecture.specs.Struct.{processesOf, processIn, firstIn, processesIn, entriesOf}
 use Rattle.append.proofs.Appending.{Appending, Opens, appending-none, appending-next, appending-length, appending-room, appending-all}
 use Rattle.text.specs.Text.{rowsText, tablesText}
-use Rattle.text.proofs.Rows.{tablesFrom, tables-open, tables-end}
+use Rattle.text.proofs.RowTexts.{tablesFrom, tables-open, tables-end}
 use Rattle.text.proofs.put_tables.Statement.{statement}
 use Rattle.text.proofs.put_tables.Tie as tie
 
@@ -19,6 +19,7 @@ abbrev μ-loop : tie.MeasureT-loop
 abbrev turn : tie.After-slice-known2 Inv-loop μ-loop → tie.In-loop Inv-loop μ-loop
 turn c = c .before .before .before .before
 
+-- `while i < n`
 loop-holds : tie.Need-loop-holds Inv-loop μ-loop
 unfolding processesOf entriesOf
 loop-holds c = (omega arith, appending-none _ _ _)
@@ -32,24 +33,30 @@ next : (c : tie.In-loop Inv-loop μ-loop) → let a = entry (c .before) .args .a
     Opens (tablesFrom a t i) (rowsText i (processIn a i) (entriesOf (firstIn a i)) t (getD (a .bounds) i 0) 0) (tablesFrom a t (i + 1))
 next c = tables-open (entry (c .before) .args .a) (entry (c .before) .args .tables .now) (c .before .loop .i) (c .loop-test .taken)
 
+-- `at = put_rows(text, at, a, i, tables)`
 put-rows-requires : tie.Need-put-rows-requires Inv-loop μ-loop
 put-rows-requires c κs =
     let l = c .before .before in
     let p = entry l .pre in
     (p .0, (c .before .loop-test .taken, (p .1 .0, appending-room (l .loop .inv .1) (p .1 .1) (next (c .before)))))
 
+-- `i += 1`
 add-i : tie.Need-add-i Inv-loop μ-loop
 add-i c = omega (arith, turn c .loop-test .taken, entry (turn c .before) .pre .0 .arrays .few-processes)
 
+-- `while i < n`
 loop-less : tie.Need-loop-less Inv-loop μ-loop
 loop-less c = omega (arith, turn c .loop-test .taken)
 
+-- `while i < n`
 loop-again : tie.Need-loop-again Inv-loop μ-loop
 loop-again c = (omega (arith, turn c .loop-test .taken), appending-next (turn c .before .loop .inv .1) (next (turn c)) (c .before .before .put-rows .ensures))
 
+-- `at`
 same-length : tie.Need-same-length Inv-loop μ-loop
 same-length c = appending-length (c .before .loop .inv .1) (entry (c .before) .pre .1 .1)
 
+-- `at`
 returns : tie.Need-returns Inv-loop μ-loop
 returns c =
     let l = c .before in

@@ -9,12 +9,15 @@ use Rattle.append.proofs.Appended.{append-more}
 use Rattle.text.proofs.put_text.Statement.{statement}
 use Rattle.text.proofs.put_text.Tie as tie
 
+-- `let after_count = put_line(text, 0, b"tables ", row_count(a))`
 slice-aggregate-put-line : tie.Need-slice-aggregate-put-line
 slice-aggregate-put-line c = search needs
 
+-- `let after_count = put_line(text, 0, b"tables ", row_count(a))`
 row-count-requires : tie.Need-row-count-requires
 row-count-requires c κs = search needs
 
+-- `let after_count = put_line(text, 0, b"tables ", row_count(a))`
 put-line-requires : tie.Need-put-line-requires
 unfolding textOf architectureOf
 put-line-requires c κs = rw (c .row-count .ensures) (omega (arith, simp length-append at (c .before .before .before .before .before .before .pre .1 .1)))
@@ -32,6 +35,7 @@ module _ (c : tie.After-put-line) where
 abbrev counted : tie.After-put-tables → tie.After-put-line
 counted c = c .before .before .before .before
 
+-- `let after_tables = put_tables(text, after_count, a, tables)`
 put-tables-requires : tie.Need-put-tables-requires
 unfolding textOf architectureOf
 put-tables-requires c κs =
@@ -39,15 +43,19 @@ put-tables-requires c κs =
     let b = entry l in
     (b .pre .0, (b .pre .1 .0, omega (arith, simp length-append at (b .pre .1 .1), first l .ends, l .put-line .kept .0)))
 
+-- `b"greatest ",`
 slice-aggregate-put-line-2 : tie.Need-slice-aggregate-put-line-2
 slice-aggregate-put-line-2 c = search needs
 
+-- `greatest(annotation) as usize,`
 greatest-requires : tie.Need-greatest-requires
 greatest-requires c κs = search needs
 
+-- `greatest(annotation) as usize,`
 cast-put-line : tie.Need-cast-put-line
 cast-put-line c = search needs
 
+-- `put_line(text, after_tables, b"greatest ", greatest(annotation) as usize)`
 put-line-requires-2 : tie.Need-put-line-requires-2
 unfolding textOf architectureOf
 put-line-requires-2 c κs =
@@ -56,9 +64,11 @@ put-line-requires-2 c κs =
     rw (c .greatest .ensures)
     (omega (arith, simp length-append at (entry l .pre .1 .1), first l .ends, l .put-line .kept .0, t .put-tables .ensures .ends, t .put-tables .kept .0))
 
+-- `put_line(text, after_tables, b"greatest ", greatest(annotation) as usize)`
 same-length : tie.Need-same-length
 same-length c = search needs
 
+-- `put_line(text, after_tables, b"greatest ", greatest(annotation) as usize)`
 returns : tie.Need-returns
 unfolding textOf architectureOf
 returns c =

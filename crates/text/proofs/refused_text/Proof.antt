@@ -5,16 +5,19 @@ use lib.ListN.{length, length-append}
 use borrow.Author.Needs.{needs}
 use Rattle.text.specs.Text.{refusedWord, line}
 use Rattle.text.proofs.WholeText.{whole-text}
-use Rattle.text.proofs.Numbers.{decimal-short}
+use Rattle.text.proofs.DecimalLaws.{decimal-short}
 use Rattle.text.proofs.refused_text.Statement.{statement}
 use Rattle.text.proofs.refused_text.Tie as tie
 
+-- `put_line(text, 0, b"refused ", refusal.number() as usize)`
 slice-aggregate-put-line : tie.Need-slice-aggregate-put-line
 slice-aggregate-put-line c = search needs
 
+-- `put_line(text, 0, b"refused ", refusal.number() as usize)`
 number-requires : tie.Need-number-requires
 number-requires c κs = search needs
 
+-- `put_line(text, 0, b"refused ", refusal.number() as usize)`
 cast-put-line : tie.Need-cast-put-line
 cast-put-line c = search needs
 
@@ -23,9 +26,11 @@ short : (c : tie.After-number) → length (line refusedWord (c .number .result))
 unfolding line
 short c = simp length-append (omega (arith, decimal-short 9 (c .number .result) (omega (arith, c .number .ok))))
 
+-- `put_line(text, 0, b"refused ", refusal.number() as usize)`
 put-line-requires : tie.Need-put-line-requires
 put-line-requires c κs = omega (arith, short c)
 
+-- `put_line(text, 0, b"refused ", refusal.number() as usize)`
 returns : tie.Need-returns
 returns c = rw (← c .before .number .ensures) (whole-text (c .put-line .ensures) (omega arith) (omega (arith, short (c .before))))
 

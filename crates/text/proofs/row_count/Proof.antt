@@ -15,9 +15,11 @@ Inv-loop a n rows₀ i₀ rows i = (i ≤ n) × ((rows ≤ 4 * i) × (rows + row
 abbrev μ-loop : tie.MeasureT-loop
 μ-loop a n rows₀ i₀ rows i = n - i
 
+-- `while i < n`
 loop-holds : tie.Need-loop-holds Inv-loop μ-loop
 loop-holds c = (omega arith, (omega arith, omega arith))
 
+-- `rows += a.bound_of(i)`
 bound-of-requires : tie.Need-bound-of-requires Inv-loop μ-loop
 bound-of-requires c κs = (c .before .before .pre, c .loop-test .taken)
 
@@ -25,15 +27,19 @@ bound-of-requires c κs = (c .before .before .pre, c .loop-test .taken)
 few : (c : tie.After-bound-of Inv-loop μ-loop) → c .bound-of .result ≤ 4
 few c = omega (arith, c .bound-of .ensures, facts (c .before .before .before .pre) .few-states (c .before .before .loop .i) (c .before .loop-test .taken))
 
+-- `rows += a.bound_of(i)`
 add-rows : tie.Need-add-rows Inv-loop μ-loop
 add-rows c = omega (arith, few c, facts (c .before .before .before .pre) .few-processes)
 
+-- `i += 1`
 add-i : tie.Need-add-i Inv-loop μ-loop
 add-i c = omega (arith, facts (c .before .before .before .pre) .few-processes)
 
+-- `while i < n`
 loop-less : tie.Need-loop-less Inv-loop μ-loop
 loop-less c = omega arith
 
+-- `while i < n`
 loop-again : tie.Need-loop-again Inv-loop μ-loop
 unfolding rowCount
 loop-again c =
@@ -42,6 +48,7 @@ loop-again c =
     let h = c .before .loop-test .taken in
     (omega arith, (omega (arith, few c), omega (arith, rw (process-next (a .inputs) (a .outputs) (a .bounds) (a .processes) (l .i) h) at (l .inv .1 .1), c .bound-of .ensures)))
 
+-- `rows`
 returns : tie.Need-returns Inv-loop μ-loop
 unfolding rowCount
 returns c =

@@ -10,8 +10,8 @@ use Rattle.model.proofs.FitsTest.{fits-length, fits-front}
 use Rattle.architecture.specs.Struct.{architectureOf}
 use Rattle.text.specs.Text.{textOf}
 use Rattle.text.proofs.WholeText.{whole-text}
-use Rattle.text.proofs.Numbers.{greatest-few}
-use Rattle.text.proofs.Short.{text-short}
+use Rattle.text.proofs.DecimalLaws.{greatest-few}
+use Rattle.text.proofs.TextShort.{text-short}
 use Rattle.text.proofs.tables_text.Statement.{statement}
 use Rattle.text.proofs.tables_text.Tie as tie
 
@@ -31,12 +31,14 @@ module _ (c : tie.After-put-text-arg2) where
       let fit : fits (entries s) t ≡ true = rw (take-append-drop n t) at (fits-front (drop n t) (entry .pre .1)) in
       text-short s t ann (entry .pre .0 .proper) fit (greatest-few ann (λ k. omega (arith, c .before .before .shared-slice-known .given k)))
 
+-- `put_text(text, a, tables, annotation)`
 put-text-requires : tie.Need-put-text-requires
 put-text-requires c κs =
     let b = entry c in
     let long = length-take (length (entries (s c))) (b .args .tables .now) in
     (b .pre .0, (omega (arith, fits-length (b .pre .1), long), omega (arith, short c)))
 
+-- `put_text(text, a, tables, annotation)`
 returns : tie.Need-returns
 returns c = whole-text (c .put-text .ensures) (omega arith) (omega (arith, short (c .before)))
 

@@ -2,17 +2,20 @@
 use mathlib.Core.Bool.{and-true}
 use borrow.Author.Needs.{needs}
 use Rattle.model.specs.Book.{wellFormed}
-use Rattle.book.proofs.Slots.{slot-entry, slot-due}
+use Rattle.book.proofs.OneSlotMore.{slot-entry, slot-due}
 use Rattle.book.proofs.walk.differs.Statement.{statement}
 use Rattle.book.proofs.walk.differs.Tie as tie
 
+-- `return false`
 returns : tie.Need-returns
 unfolding wellFormed
 returns c = rw (slot-entry _ (c .if1 .taken))
 
+-- `byte as u16 != (slot - 1) % 256`
 sub-result : tie.Need-sub-result
 sub-result c = search needs
 
+-- `byte as u16 != (slot - 1) % 256`
 returns-2 : tie.Need-returns-2
 unfolding wellFormed
 returns-2 c = rw (slot-due _ (c .if1 .left), and-true)

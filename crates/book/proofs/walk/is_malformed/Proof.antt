@@ -11,7 +11,7 @@ use borrow.Author.Tests.{not-true, not-false}
 use Rattle.model.specs.Book.{wellFormed}
 use Rattle.theory.proofs.Bools.{and-on, and-off}
 use Rattle.layout.specs.Slots.{slotOf, slotsOf}
-use Rattle.book.proofs.Slots.{wrong-length, slots-length, well-turn}
+use Rattle.book.proofs.OneSlotMore.{wrong-length, slots-length, well-turn}
 use Rattle.book.proofs.walk.is_malformed.Statement.{statement}
 use Rattle.book.proofs.walk.is_malformed.Tie as tie
 
@@ -21,24 +21,30 @@ Inv-loop slots n book k₀ k = (k ≤ n) × (wellFormed (map slotOf (drop k (tak
 abbrev μ-loop : tie.MeasureT-loop
 μ-loop slots n book k₀ k = n - k
 
+-- `return true`
 returns : tie.Need-returns Inv-loop μ-loop
 returns c =
     let b = c .before .before .before in
     let long = slots-length (b .args .slots .now) (b .args .n) (b .pre) in
     sym (ap not (wrong-length (slotsOf (b .args .slots .now) (b .args .n)) (b .args .book .now) (λ e. omega (arith, c .if1 .taken, e, long))))
 
+-- `while k < n`
 loop-holds : tie.Need-loop-holds Inv-loop μ-loop
 loop-holds c = (omega arith, refl)
 
+-- `if differs(slots[k], book[k])`
 mul-differs : tie.Need-mul-differs Inv-loop μ-loop
 mul-differs c = omega arith
 
+-- `if differs(slots[k], book[k])`
 shared-slice-read-differs : tie.Need-shared-slice-read-differs Inv-loop μ-loop
 shared-slice-read-differs c = omega arith
 
+-- `if differs(slots[k], book[k])`
 shared-slice-read-differs-2 : tie.Need-shared-slice-read-differs-2 Inv-loop μ-loop
 shared-slice-read-differs-2 c = omega arith
 
+-- `if differs(slots[k], book[k])`
 differs-requires : tie.Need-differs-requires Inv-loop μ-loop
 differs-requires c κs = search needs
 
@@ -70,9 +76,11 @@ module _ (c : tie.After-differs Inv-loop μ-loop) where
   unfolding test
   tested = sym (c .differs .ensures)
 
+-- `return true`
 returns-2 : tie.Need-returns-2 Inv-loop μ-loop
 returns-2 c = sym (ap not (here (c .before) ∙ and-off {a = test (c .before)} (rest (c .before)) (not-true _ (tested (c .before) ∙ c .if2 .taken))))
 
+-- `k += 1`
 add-k : tie.Need-add-k Inv-loop μ-loop
 add-k c = omega arith
 
@@ -80,14 +88,17 @@ add-k c = omega arith
 abbrev turn : tie.Else2 Inv-loop μ-loop → tie.In-loop Inv-loop μ-loop
 turn c = c .before .before .before .before
 
+-- `while k < n`
 loop-less : tie.Need-loop-less Inv-loop μ-loop
 loop-less c = omega (arith, turn c .loop-test .taken)
 
+-- `while k < n`
 loop-again : tie.Need-loop-again Inv-loop μ-loop
 unfolding rest
 loop-again c =
     (omega (arith, turn c .loop-test .taken), sym (here (c .before) ∙ and-on {a = test (c .before)} (rest (c .before)) (not-false _ (tested (c .before) ∙ c .if2 .left))))
 
+-- `false`
 returns-3 : tie.Need-returns-3 Inv-loop μ-loop
 unfolding wellFormed
 returns-3 c =

@@ -9,7 +9,7 @@ use Rattle.model.specs.Calls.{front}
 use Rattle.append.specs.Appends.{Appends}
 use Rattle.append.proofs.Appended.{append-none, append-more, append-length, append-front}
 use Rattle.layout.specs.Slots.{slotOf, slotsOf}
-use Rattle.book.proofs.Slots.{entries-more, entries-fit, entries-room}
+use Rattle.book.proofs.OneSlotMore.{entries-more, entries-fit, entries-room}
 use Rattle.book.proofs.walk.take_entries.Statement.{statement}
 use Rattle.book.proofs.walk.take_entries.Tie as tie
 
@@ -23,16 +23,20 @@ abbrev μ-loop : tie.MeasureT-loop
 abbrev turn : tie.After-slice-known2 Inv-loop μ-loop → tie.In-loop Inv-loop μ-loop
 turn c = c .before .before .before .before .before .before
 
+-- `while k < n`
 loop-holds : tie.Need-loop-holds Inv-loop μ-loop
 unfolding entriesIn
 loop-holds c = (omega arith, append-none (c .before .before .before .args .tables .now) 0)
 
+-- `e = take_entry(tables, e, slots[k], book[k])`
 mul-take-entry : tie.Need-mul-take-entry Inv-loop μ-loop
 mul-take-entry c = omega arith
 
+-- `e = take_entry(tables, e, slots[k], book[k])`
 shared-slice-read-take-entry : tie.Need-shared-slice-read-take-entry Inv-loop μ-loop
 shared-slice-read-take-entry c = omega arith
 
+-- `e = take_entry(tables, e, slots[k], book[k])`
 shared-slice-read-take-entry-2 : tie.Need-shared-slice-read-take-entry-2 Inv-loop μ-loop
 shared-slice-read-take-entry-2 c = omega arith
 
@@ -49,6 +53,7 @@ module _ (c : tie.At-loop Inv-loop μ-loop) where
       let few = entries-fit (a .slots .now) (a .n) (length (a .tables .now)) (p .0 .0) (p .1) (a .book .now) (p .0 .1) (c .loop .k) (c .loop .inv .0) in
       append-length (c .loop .inv .1) (omega (arith, c .loop .inv .1 .ends, few))
 
+-- `e = take_entry(tables, e, slots[k], book[k])`
 take-entry-requires : tie.Need-take-entry-requires Inv-loop μ-loop
 take-entry-requires c κs =
     let l = c .before .before .before .before in
@@ -67,18 +72,23 @@ more c =
     let h = c .loop-test .taken in
     entries-more (b .args .slots .now) (b .args .book .now) (c .before .loop .k) (omega (arith, h, b .pre .0 .0)) (omega (arith, h, b .pre .0 .1))
 
+-- `k += 1`
 add-k : tie.Need-add-k Inv-loop μ-loop
 add-k c = omega (arith, turn c .loop-test .taken)
 
+-- `while k < n`
 loop-less : tie.Need-loop-less Inv-loop μ-loop
 loop-less c = omega (arith, turn c .loop-test .taken)
 
+-- `while k < n`
 loop-again : tie.Need-loop-again Inv-loop μ-loop
 loop-again c = (omega (arith, turn c .loop-test .taken), rw (more (turn c)) (append-more (turn c .before .loop .inv .1) (c .before .before .take-entry .ensures)))
 
+-- `while k < n`
 same-length : tie.Need-same-length Inv-loop μ-loop
 same-length c = long (c .before)
 
+-- `while k < n`
 returns : tie.Need-returns Inv-loop μ-loop
 unfolding front
 returns c =

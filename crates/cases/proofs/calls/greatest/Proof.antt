@@ -1,4 +1,4 @@
--- `cases::calls::greatest` is safe and ends: the measure is the count of numbers still due. Assumes nothing.
+-- `cases::calls::greatest` is safe and ends: the measure is the count of numbers still due.
 use Prim.Native.Nat.{_-_}
 use native.Mathlib.Omega.{arith}
 use lib.ListN.{length}

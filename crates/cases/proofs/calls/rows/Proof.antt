@@ -1,4 +1,4 @@
--- `cases::calls::rows` is safe and ends: there are no more rows than bytes passed. Assumes nothing.
+-- `cases::calls::rows` is safe and ends: there are no more rows than bytes passed.
 use Prim.Native.Nat.{_-_, _≤_}
 use mathlib.Core.Logic.{⊎-elim}
 use native.Mathlib.Omega.{arith}

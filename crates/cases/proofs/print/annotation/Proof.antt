@@ -1,4 +1,4 @@
--- `cases::print::annotation` is safe and ends: the measure is the count of numbers still due. Assumes nothing.
+-- `cases::print::annotation` is safe and ends: the measure is the count of numbers still due.
 use Prim.Native.Nat.{_-_}
 use native.Mathlib.Omega.{arith}
 use lib.ListN.{length}

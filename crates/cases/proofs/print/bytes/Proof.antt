@@ -1,4 +1,4 @@
--- `cases::print::bytes` is safe and ends: the measure is the count of bytes still due. Assumes nothing.
+-- `cases::print::bytes` is safe and ends: the measure is the count of bytes still due.
 use Prim.Native.Nat.{_-_}
 use native.Mathlib.Omega.{arith}
 use lib.ListN.{length}

@@ -12,7 +12,7 @@ use Rattle.model.specs.Reading.{short, marked, AU, readAutomaton}
 use Rattle.architecture.specs.Struct.{architectureOf}
 use Rattle.sheet.specs.Struct.{FrontKnown}
 use Rattle.model.proofs.Refusing.{stop, go}
-use Rattle.sheet.proofs.Tests.{too-few, enough, reads-as}
+use Rattle.sheet.proofs.RefusalTests.{too-few, enough, reads-as}
 use Rattle.architecture.proofs.Processes.{count-is}
 use Rattle.sheet.proofs.ReadingEdges.{fields, automaton-is}
 use Rattle.sheet.proofs.behind.read_automaton.Statement.{statement}
@@ -65,55 +65,69 @@ long : (c : tie.Else3) → let s = marking (c .before) in short (bytes s) (at s)
 long c = let s = marking (c .before) in enough (bytes s) (at s) 6 (known s .inside) (c .if3 .left)
 
 -- ---- the needs
+-- `let nothing = Automaton::opened(0, 0, 0)`
 opened-requires : tie.Need-opened-requires
 opened-requires c κs = search needs
 
+-- `if sheet.len() - at < 2`
 sub-if1 : tie.Need-sub-if1
 sub-if1 c = search needs
 
+-- `return refuse(Refusal::SheetTooShort, nothing)`
 refuse-requires : tie.Need-refuse-requires
 refuse-requires c κs = search needs
 
+-- `return refuse(Refusal::SheetTooShort, nothing)`
 returns : tie.Need-returns
 returns c =
     let s = entry (c .before .before) in
     reads-as (c .refuse .ensures) (sym (automaton-is (architecture s) (bytes s) (at s) ∙ stop _ _ (too-few (bytes s) (at s) 2 (c .before .if1 .taken))))
 
+-- `if lacks_automaton(sheet, at, architecture.processes)`
 lacks-automaton-requires : tie.Need-lacks-automaton-requires
 lacks-automaton-requires c κs = search needs
 
+-- `return refuse(Refusal::WrongMark, nothing)`
 refuse-requires-2 : tie.Need-refuse-requires-2
 refuse-requires-2 c κs = search needs
 
+-- `return refuse(Refusal::WrongMark, nothing)`
 returns-2 : tie.Need-returns-2
 returns-2 c =
     let w = reading (c .before .before) in
     let s = start w in
     reads-as (c .refuse2 .ensures) (sym (automaton-is (architecture s) (bytes s) (at s) ∙ go _ _ (whole w) ∙ stop _ _ (sym (mark (c .before .before)) ∙ c .before .if2 .taken)))
 
+-- `if sheet.len() - at < 6`
 sub-if3 : tie.Need-sub-if3
 sub-if3 c = search needs
 
+-- `return refuse(Refusal::SheetTooShort, nothing)`
 refuse-requires-3 : tie.Need-refuse-requires-3
 refuse-requires-3 c κs = search needs
 
+-- `return refuse(Refusal::SheetTooShort, nothing)`
 returns-3 : tie.Need-returns-3
 returns-3 c =
     let s = marking (c .before .before) in
     reads-as (c .refuse3 .ensures) (sym (opens (c .before .before) ∙ stop _ _ (too-few (bytes s) (at s) 6 (c .before .if3 .taken))))
 
+-- `if all_fault(architecture, front.owned, front.total)`
 all-fault-requires : tie.Need-all-fault-requires
 unfolding architectureOf
 all-fault-requires c κs = let z = known (marking (c .before)) in (z .proper .few-variables, (z .owned-is, z .total-is))
 
+-- `return refuse(Refusal::NoOwnerOrTooMany, nothing)`
 refuse-requires-4 : tie.Need-refuse-requires-4
 refuse-requires-4 c κs = search needs
 
+-- `return refuse(Refusal::NoOwnerOrTooMany, nothing)`
 returns-4 : tie.Need-returns-4
 returns-4 c =
     let d = c .before .before .before in
     reads-as (c .refuse4 .ensures) (sym (opens (d .before) ∙ go _ _ (long d) ∙ stop _ _ (sym (c .before .before .all-fault .ensures) ∙ c .before .if4 .taken)))
 
+-- `read_states(sheet, at, architecture.variables)`
 read-states-requires : tie.Need-read-states-requires
 unfolding architectureOf
 read-states-requires c κs =
@@ -121,6 +135,7 @@ read-states-requires c κs =
     let z = known (marking (d .before)) in
     (omega (arith, d .if3 .left, z .inside), z .proper .few-variables)
 
+-- `read_states(sheet, at, architecture.variables)`
 returns-5 : tie.Need-returns-5
 unfolding architectureOf
 returns-5 c =

@@ -10,7 +10,7 @@ use Rattle.automaton.specs.Struct.{automatonOf}
 use Rattle.sheet.specs.Struct.{automatonAs}
 use Rattle.sheet.specs.Steps.{edgeFrom}
 use Rattle.model.proofs.Refusing.{stop, go}
-use Rattle.sheet.proofs.Tests.{too-few, enough, reads-as}
+use Rattle.sheet.proofs.RefusalTests.{too-few, enough, reads-as}
 use Rattle.sheet.proofs.behind.read_edge.Statement.{statement}
 use Rattle.sheet.proofs.behind.read_edge.Tie as tie
 
@@ -32,55 +32,71 @@ whole : (c : tie.Else1) → short (bytes (entry c)) (at (entry c)) 6 ≡ false
 whole c = enough (bytes (entry c)) (at (entry c)) 6 (entry c .pre .0 .0) (c .if1 .left)
 
 -- ---- the needs
+-- `if sheet.len() - at < 6`
 sub-if1 : tie.Need-sub-if1
 sub-if1 c = search needs
 
+-- `return refuse(Refusal::SheetTooShort, so_far)`
 refuse-requires : tie.Need-refuse-requires
 refuse-requires c κs = search needs
 
+-- `return refuse(Refusal::SheetTooShort, so_far)`
 returns : tie.Need-returns
 unfolding edgeFrom
 returns c = let s = c .before .before .before in reads-as (c .refuse .ensures) (sym (stop _ _ (too-few (bytes s) (at s) 6 (c .before .if1 .taken))))
 
+-- `from: sheet[at + 2],`
 add-t7 : tie.Need-add-t7
 add-t7 c = search needs
 
+-- `from: sheet[at + 2],`
 shared-slice-read-t12 : tie.Need-shared-slice-read-t12
 shared-slice-read-t12 c = search needs
 
+-- `to: sheet[at + 3],`
 add-t8 : tie.Need-add-t8
 add-t8 c = search needs
 
+-- `to: sheet[at + 3],`
 shared-slice-read-t14 : tie.Need-shared-slice-read-t14
 shared-slice-read-t14 c = search needs
 
+-- `on: sheet[at + 4],`
 add-t15 : tie.Need-add-t15
 add-t15 c = search needs
 
+-- `on: sheet[at + 4],`
 shared-slice-read-t17 : tie.Need-shared-slice-read-t17
 shared-slice-read-t17 c = search needs
 
+-- `off: sheet[at + 5],`
 add-t18 : tie.Need-add-t18
 add-t18 c = search needs
 
+-- `off: sheet[at + 5],`
 shared-slice-read-t20 : tie.Need-shared-slice-read-t20
 shared-slice-read-t20 c = search needs
 
+-- `if ed_fault(variables, so_far.states, edge)`
 ed-fault-requires : tie.Need-ed-fault-requires
 ed-fault-requires c κs = search needs
 
+-- `return refuse(Refusal::BadEdge, so_far)`
 refuse-requires-2 : tie.Need-refuse-requires-2
 refuse-requires-2 c κs = search needs
 
+-- `return refuse(Refusal::BadEdge, so_far)`
 returns-2 : tie.Need-returns-2
 unfolding edgeFrom automatonOf
 returns-2 c =
     let e = c .before .before in
     reads-as (c .refuse2 .ensures) (sym (go _ _ (whole (reading e)) ∙ stop _ _ (sym (e .ed-fault .ensures) ∙ c .before .if2 .taken)))
 
+-- `let automaton = so_far.with_edge(edge)`
 with-edge-requires : tie.Need-with-edge-requires
 with-edge-requires c κs = search needs
 
+-- `AutomatonRead`
 returns-3 : tie.Need-returns-3
 unfolding edgeFrom automatonOf automatonAs
 returns-3 c =

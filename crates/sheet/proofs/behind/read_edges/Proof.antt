@@ -12,8 +12,8 @@ use Rattle.model.specs.Reading.{Reading, proper, _then_}
 use Rattle.automaton.specs.declared.Automaton as Struct
 use Rattle.automaton.specs.Struct.{automatonOf}
 use Rattle.sheet.specs.Steps.{edgeFrom, edgesFrom}
-use Rattle.sheet.proofs.Tests.{fails, passes, reads-as}
-use Rattle.sheet.proofs.Sheets.{automaton-refused, automaton-done}
+use Rattle.sheet.proofs.RefusalTests.{fails, passes, reads-as}
+use Rattle.sheet.proofs.AnswersOfReading.{automaton-refused, automaton-done}
 use Rattle.sheet.proofs.ReadingOn.{then-refused, then-proper}
 use Rattle.sheet.proofs.ReadingEdges.{EdgesRead, edge-read, edge-count, edges-none, edges-last, edges-turn}
 use Rattle.sheet.proofs.behind.read_edges.Statement.{statement}
@@ -69,6 +69,7 @@ here c =
     sym (edges-turn (automaton l) (bytes l) (at l) (variables l) 64 (count l) (below (c .before)) marked) ∙ l .loop .inv .rest
 
 -- ---- the needs
+-- `while read.edges < 64`
 loop-holds : tie.Need-loop-holds Inv-loop μ-loop
 loop-holds c =
     let s = c .before in
@@ -79,26 +80,32 @@ loop-holds c =
       rest = ap (λ (k : ℕ). edgesFrom k (s .args .variables) (automatonOf (s .args .first)) (s .args .sheet .now) (s .args .start)) none;
     }
 
+-- `if !is_marked(sheet, at, &ED)`
 is-marked-requires : tie.Need-is-marked-requires Inv-loop μ-loop
 is-marked-requires c κs = c .before .before .before .loop .inv .inside
 
+-- `return read_end(sheet, at, read)`
 read-end-requires : tie.Need-read-end-requires Inv-loop μ-loop
 read-end-requires c κs = let i = head (c .before) .loop .inv in (i .inside, i .arrays)
 
+-- `return read_end(sheet, at, read)`
 returns : tie.Need-returns Inv-loop μ-loop
 returns c =
     let l = head (c .before .before) in
     let none = not-true _ (fails (c .before .before .is-marked .ensures) (c .before .if2 .taken)) in
     reads-as (c .read-end .ensures) (sym (edges-none (automaton l) (bytes l) (at l) (variables l) (64 - count l) none) ∙ l .loop .inv .rest)
 
+-- `let next = read_edge(sheet, at, variables, read)`
 read-edge-requires : tie.Need-read-edge-requires Inv-loop μ-loop
 read-edge-requires c κs =
     let l = head (c .before) in
     ((l .loop .inv .inside, l .before .before .pre .0 .1), (l .loop .inv .arrays, below (c .before)))
 
+-- `return next`
 enum-told : tie.Need-enum-told Inv-loop μ-loop
 enum-told c = search needs
 
+-- `return next`
 returns-2 : tie.Need-returns-2 Inv-loop μ-loop
 returns-2 c =
     let next = c .before .before .read-edge in
@@ -107,6 +114,7 @@ returns-2 c =
     let refused = automaton-refused _ (next .result .answer) (next .result .automaton) (next .ensures .is) (told .0 .0) (told .1) in
     reads-as (next .ensures) (refused ∙ sym (then-refused (rest (head (marked .before))) refused) ∙ here marked)
 
+-- `return next`
 enum-told-2 : tie.Need-enum-told-2 Inv-loop μ-loop
 enum-told-2 c = search needs
 
@@ -134,12 +142,15 @@ counts c = let l = turn c in edge-count (l .loop .read) _ _ (sym (edge-read (aut
 inside : (c : Done) → at (turn c) + 6 ≤ length (bytes (turn c))
 inside c = let l = turn c in edge-read (automaton l) (bytes l) (at l) (variables l) _ (done c) .1
 
+-- `at += 6`
 add-at : tie.Need-add-at Inv-loop μ-loop
 add-at c = omega (arith, inside (c .before), turn (c .before) .before .before .good)
 
+-- `while read.edges < 64`
 loop-less : tie.Need-loop-less Inv-loop μ-loop
 loop-less c = omega (arith, counts (c .before), below (marked (c .before) .before))
 
+-- `while read.edges < 64`
 loop-again : tie.Need-loop-again Inv-loop μ-loop
 loop-again c =
     let d = c .before in
@@ -147,9 +158,11 @@ loop-again c =
     let onward = ap (λ (k : ℕ). edgesFrom (64 - k) (variables l) (automatonOf (next d)) (bytes l) (at l + 6)) (counts d) in
     record { arrays = d .before .before .read-edge .ensures .arrays; inside = inside d; rest = onward ∙ sym (then-proper (rest l) (done d)) ∙ here (marked d) }
 
+-- `read_end(sheet, at, read)`
 read-end-requires-2 : tie.Need-read-end-requires-2 Inv-loop μ-loop
 read-end-requires-2 c κs = let i = c .before .before .loop .inv in (i .inside, i .arrays)
 
+-- `read_end(sheet, at, read)`
 returns-3 : tie.Need-returns-3 Inv-loop μ-loop
 returns-3 c =
     let l = c .before .before .before in

@@ -15,7 +15,7 @@ use Rattle.automaton.specs.Struct.{automatonOf}
 use Rattle.sheet.specs.Struct.{automatonAs}
 use Rattle.sheet.specs.Steps.{endFrom}
 use Rattle.model.proofs.Refusing.{stop, go}
-use Rattle.sheet.proofs.Tests.{fails, passes, too-few, enough, reads-as}
+use Rattle.sheet.proofs.RefusalTests.{fails, passes, too-few, enough, reads-as}
 use Rattle.sheet.proofs.ReadingEdges.{end-is}
 use Rattle.sheet.proofs.behind.read_end.Statement.{statement}
 use Rattle.sheet.proofs.behind.read_end.Tie as tie
@@ -51,41 +51,51 @@ ends c =
     end-is (automaton s) (bytes s) (at s) ∙ go _ _ (whole (reading (c .before))) ∙ go _ _ (passes (c .before .is-marked .ensures) (c .if2 .left))
 
 -- ---- the needs
+-- `if sheet.len() - at < 2`
 sub-if1 : tie.Need-sub-if1
 sub-if1 c = search needs
 
+-- `return refuse(Refusal::SheetTooShort, so_far)`
 refuse-requires : tie.Need-refuse-requires
 refuse-requires c κs = search needs
 
+-- `return refuse(Refusal::SheetTooShort, so_far)`
 returns : tie.Need-returns
 returns c =
     let s = c .before .before .before in
     reads-as (c .refuse .ensures) (sym (end-is (automaton s) (bytes s) (at s) ∙ stop _ _ (too-few (bytes s) (at s) 2 (c .before .if1 .taken))))
 
+-- `if !is_marked(sheet, at, &EN)`
 is-marked-requires : tie.Need-is-marked-requires
 is-marked-requires c κs = search needs
 
+-- `return refuse(Refusal::WrongMark, so_far)`
 refuse-requires-2 : tie.Need-refuse-requires-2
 refuse-requires-2 c κs = search needs
 
+-- `return refuse(Refusal::WrongMark, so_far)`
 returns-2 : tie.Need-returns-2
 returns-2 c =
     let w = reading (c .before .before) in
     let s = entry w in
     reads-as (c .refuse2 .ensures) (sym (end-is (automaton s) (bytes s) (at s) ∙ go _ _ (whole w) ∙ stop _ _ (fails (c .before .before .is-marked .ensures) (c .before .if2 .taken))))
 
+-- `if 2 < sheet.len() - at`
 sub-if3 : tie.Need-sub-if3
 sub-if3 c = search needs
 
+-- `return refuse(Refusal::WrongMark, so_far)`
 refuse-requires-3 : tie.Need-refuse-requires-3
 refuse-requires-3 c κs = search needs
 
+-- `return refuse(Refusal::WrongMark, so_far)`
 returns-3 : tie.Need-returns-3
 returns-3 c =
     let s = start (c .before .before) in
     let more : at s + 2 < length (bytes s) = omega (arith, c .before .if3 .taken) in
     reads-as (c .refuse3 .ensures) (sym (ends (c .before .before) ∙ stop _ _ (lt-ltb _ _ more)))
 
+-- `AutomatonRead`
 returns-4 : tie.Need-returns-4
 unfolding automatonAs
 returns-4 c =

@@ -8,7 +8,7 @@ use Rattle.model.specs.Reading.{byte, auFault}
 use Rattle.automaton.specs.Struct.{automatonOf}
 use Rattle.sheet.specs.Steps.{edgesFrom, statesFrom}
 use Rattle.model.proofs.Refusing.{stop, go}
-use Rattle.sheet.proofs.Tests.{reads-as}
+use Rattle.sheet.proofs.RefusalTests.{reads-as}
 use Rattle.sheet.proofs.behind.read_states.Statement.{statement}
 use Rattle.sheet.proofs.behind.read_states.Tie as tie
 
@@ -42,52 +42,68 @@ fault : (c : tie.After-au-fault) → let s = start (c .before) in c .au-fault .r
 fault c = let s = start (c .before) in c .au-fault .ensures ∙ ap (auFault (states s) (initial s)) (c .before .before .two-bytes .ensures)
 
 -- ---- the needs
+-- `let states = sheet[at + 2]`
 add-states : tie.Need-add-states
 add-states c = search needs
 
+-- `let states = sheet[at + 2]`
 shared-slice-read-states : tie.Need-shared-slice-read-states
 shared-slice-read-states c = search needs
 
+-- `let initial = sheet[at + 3]`
 add-initial : tie.Need-add-initial
 add-initial c = search needs
 
+-- `let initial = sheet[at + 3]`
 shared-slice-read-initial : tie.Need-shared-slice-read-initial
 shared-slice-read-initial c = search needs
 
+-- `let rejecting = two_bytes(sheet[at + 4], sheet[at + 5])`
 add-two-bytes : tie.Need-add-two-bytes
 add-two-bytes c = search needs
 
+-- `let rejecting = two_bytes(sheet[at + 4], sheet[at + 5])`
 shared-slice-read-two-bytes : tie.Need-shared-slice-read-two-bytes
 shared-slice-read-two-bytes c = search needs
 
+-- `let rejecting = two_bytes(sheet[at + 4], sheet[at + 5])`
 add-two-bytes-2 : tie.Need-add-two-bytes-2
 add-two-bytes-2 c = search needs
 
+-- `let rejecting = two_bytes(sheet[at + 4], sheet[at + 5])`
 shared-slice-read-two-bytes-2 : tie.Need-shared-slice-read-two-bytes-2
 shared-slice-read-two-bytes-2 c = search needs
 
+-- `let rejecting = two_bytes(sheet[at + 4], sheet[at + 5])`
 two-bytes-requires : tie.Need-two-bytes-requires
 two-bytes-requires c κs = search needs
 
+-- `let automaton = Automaton::opened(states, initial, rejecting)`
 opened-requires : tie.Need-opened-requires
 opened-requires c κs = search needs
 
+-- `if au_fault(states, initial, rejecting)`
 au-fault-requires : tie.Need-au-fault-requires
 au-fault-requires c κs = search needs
 
+-- `return refuse(Refusal::BadAutomaton, automaton)`
 refuse-requires : tie.Need-refuse-requires
 refuse-requires c κs = search needs
 
+-- `return refuse(Refusal::BadAutomaton, automaton)`
 returns : tie.Need-returns
 unfolding statesFrom
 returns c = reads-as (c .refuse .ensures) (sym (stop _ _ (sym (fault (c .before .before)) ∙ c .before .if1 .taken)))
 
+-- `read_edges(sheet, at + 6, variables, automaton)`
 add-read-edges : tie.Need-add-read-edges
 add-read-edges c = search needs
 
+-- `read_edges(sheet, at + 6, variables, automaton)`
 read-edges-requires : tie.Need-read-edges-requires
 read-edges-requires c κs = search needs
 
+-- `read_edges(sheet, at + 6, variables, automaton)`
 returns-2 : tie.Need-returns-2
 unfolding statesFrom
 returns-2 c =

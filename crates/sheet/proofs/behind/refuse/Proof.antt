@@ -4,6 +4,7 @@ use Rattle.sheet.specs.Struct.{automatonAs}
 use Rattle.sheet.proofs.behind.refuse.Statement.{statement}
 use Rattle.sheet.proofs.behind.refuse.Tie as tie
 
+-- `AutomatonRead`
 returns : tie.Need-returns
 unfolding automatonAs
 returns c = record { is = refl; arrays = c .pre }

@@ -7,11 +7,12 @@ use Rattle.theory.specs.Lists.{all, from}
 use Rattle.model.specs.Sheet.{owned}
 use Rattle.model.specs.Reading.{allFault}
 use Rattle.architecture.specs.Struct.{architectureOf, processesIn}
-use Rattle.sheet.proofs.Tests.{fails, passes}
-use Rattle.sheet.proofs.Masks.{owned-is}
+use Rattle.sheet.proofs.RefusalTests.{fails, passes}
+use Rattle.sheet.proofs.OwnedOutputs.{owned-is}
 use Rattle.sheet.proofs.faults.all_fault.Statement.{statement}
 use Rattle.sheet.proofs.faults.all_fault.Tie as tie
 
+-- `if !all_set(owned, architecture.environment, architecture.variables)`
 all-set-requires : tie.Need-all-set-requires
 all-set-requires c κs = search needs
 
@@ -21,10 +22,12 @@ owners c =
     let s = c .before .args .architecture in
     c .all-set .ensures ∙ rw (c .before .pre .1 .0) (owned-is (processesIn s) (from (s .variables - s .environment) (s .environment)))
 
+-- `return true`
 returns : tie.Need-returns
 unfolding allFault architectureOf
 returns c = simp (fails (owners (c .before)) (c .if1 .taken))
 
+-- `256 < total`
 returns-2 : tie.Need-returns-2
 unfolding allFault architectureOf
 returns-2 c = simp (passes (owners (c .before)) (c .if1 .left)) (ap (ltb 256) (c .before .before .pre .1 .1))

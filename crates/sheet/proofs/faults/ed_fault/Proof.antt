@@ -35,30 +35,38 @@ off-known : (c : tie.Else4) → let a = entry (first (second (third (c .before) 
 off-known c = sym (c .before .is-beyond2 .ensures) ∙ c .if4 .left
 
 -- ---- the needs
+-- `return true`
 returns : tie.Need-returns
 unfolding edFault
 returns c = simp (le-leb _ _ (c .if1 .taken))
 
+-- `return true`
 returns-2 : tie.Need-returns-2
 unfolding edFault
 returns-2 c = simp (from-known (c .before .before), le-leb _ _ (c .if2 .taken))
 
+-- `if is_beyond(edge.on as u16, variables)`
 cast-is-beyond : tie.Need-cast-is-beyond
 cast-is-beyond c = search needs
 
+-- `if is_beyond(edge.on as u16, variables)`
 is-beyond-requires : tie.Need-is-beyond-requires
 is-beyond-requires c κs = search needs
 
+-- `return true`
 returns-3 : tie.Need-returns-3
 unfolding edFault
 returns-3 c = let d = second (c .before) in simp (from-known (first d), to-known d, sym (c .before .is-beyond .ensures) ∙ c .if3 .taken)
 
+-- `if is_beyond(edge.off as u16, variables)`
 cast-is-beyond-2 : tie.Need-cast-is-beyond-2
 cast-is-beyond-2 c = search needs
 
+-- `if is_beyond(edge.off as u16, variables)`
 is-beyond-requires-2 : tie.Need-is-beyond-requires-2
 is-beyond-requires-2 c κs = search needs
 
+-- `return true`
 returns-4 : tie.Need-returns-4
 unfolding edFault
 returns-4 c =
@@ -66,6 +74,7 @@ returns-4 c =
     let d = second (e .before) in
     simp (from-known (first d), to-known d, on-known e, sym (c .before .is-beyond2 .ensures) ∙ c .if4 .taken)
 
+-- `edge.on & edge.off != 0`
 returns-5 : tie.Need-returns-5
 unfolding edFault share
 returns-5 c =

@@ -40,39 +40,49 @@ unfolding fieldFault count
 rest c = let d = c .before in simp (inputs-known (first (second d)), outputs-known (second d), own-outputs d, le-ltb _ _ (c .if4 .left))
 
 -- ---- the needs
+-- `if is_beyond(inputs as u16, variables)`
 is-beyond-requires : tie.Need-is-beyond-requires
 is-beyond-requires c κs = search needs
 
+-- `return true`
 returns : tie.Need-returns
 unfolding fieldFault
 returns c = simp (sym (c .before .is-beyond .ensures) ∙ c .if1 .taken)
 
+-- `if is_beyond(outputs as u16, variables)`
 is-beyond-requires-2 : tie.Need-is-beyond-requires-2
 is-beyond-requires-2 c κs = search needs
 
+-- `return true`
 returns-2 : tie.Need-returns-2
 unfolding fieldFault
 returns-2 c = simp (inputs-known (c .before .before), sym (c .before .is-beyond2 .ensures) ∙ c .if2 .taken)
 
+-- `if outputs & lowest(environment) != 0`
 lowest-requires : tie.Need-lowest-requires
 lowest-requires c κs = search needs
 
+-- `return true`
 returns-3 : tie.Need-returns-3
 unfolding fieldFault share
 returns-3 c = let d = c .before .before in simp (inputs-known (first d), outputs-known d, sym (c .before .lowest .ensures), ne-eqb _ _ (c .if3 .taken))
 
+-- `return true`
 returns-4 : tie.Need-returns-4
 unfolding fieldFault count
 returns-4 c = let d = c .before in simp (inputs-known (first (second d)), outputs-known (second d), own-outputs d, lt-ltb _ _ (c .if4 .taken))
 
+-- `return true`
 returns-5 : tie.Need-returns-5
 unfolding share
 returns-5 c = rw (rest (c .before)) (simp (ne-eqb _ _ (c .if5 .taken)))
 
+-- `return true`
 returns-6 : tie.Need-returns-6
 unfolding share
 returns-6 c = rw (rest (c .before .before)) (simp (eq-eqb _ _ (c .before .if5 .left), eq-eqb _ _ (c .if6 .taken)))
 
+-- `4 < bound`
 returns-7 : tie.Need-returns-7
 unfolding share
 returns-7 c = rw (rest (c .before .before)) (simp (eq-eqb _ _ (c .before .if5 .left), ne-eqb _ _ (c .if6 .left)))

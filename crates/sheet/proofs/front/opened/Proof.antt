@@ -14,12 +14,15 @@ use Rattle.sheet.proofs.front.opened.Tie as tie
 abbrev ar : tie.Start → Architecture
 ar s = record { variables = s .args .variables; environment = s .args .environment; root = s .args .root; processes = [] }
 
+-- `let architecture = Architecture::opened(variables, environment, root)`
 opened-requires : tie.Need-opened-requires
 opened-requires c κs = search needs
 
+-- `total: power(environment),`
 power-requires : tie.Need-power-requires
 power-requires c κs = opening-proper (ar (c .before)) refl (c .before .pre) .few-environment
 
+-- `FrontRead`
 returns : tie.Need-returns
 unfolding frontAs
 returns c =

@@ -5,9 +5,11 @@ use Rattle.theory.proofs.BitLaws.{one-shifted}
 use Rattle.sheet.proofs.front.power.Statement.{statement}
 use Rattle.sheet.proofs.front.power.Tie as tie
 
+-- `1 << n`
 shl-result : tie.Need-shl-result
 shl-result c = search needs
 
+-- `1 << n`
 returns : tie.Need-returns
 returns c = one-shifted 16 (c .args .n) (omega arith)
 

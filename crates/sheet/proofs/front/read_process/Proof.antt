@@ -14,7 +14,7 @@ use Rattle.architecture.specs.Struct.{architectureOf}
 use Rattle.sheet.specs.Struct.{FrontKnown, frontAs}
 use Rattle.sheet.specs.Steps.{processFrom}
 use Rattle.model.proofs.Refusing.{stop, go}
-use Rattle.sheet.proofs.Tests.{too-few, enough}
+use Rattle.sheet.proofs.RefusalTests.{too-few, enough}
 use Rattle.sheet.proofs.OneProcessMore.{total-few, known-more}
 use Rattle.sheet.proofs.ReadingOn.{field-stops, mask-decides}
 use Rattle.sheet.proofs.front.read_process.Statement.{statement}
@@ -77,43 +77,55 @@ unfolding share
 sound c = decides (sound-fields c) ∙ ap not (eq-eqb _ _ (c .if3 .left))
 
 -- ---- the needs
+-- `if sheet.len() - at < 5`
 sub-if1 : tie.Need-sub-if1
 sub-if1 c = search needs
 
+-- `return refuse(Refusal::SheetTooShort, so_far)`
 refuse-requires : tie.Need-refuse-requires
 refuse-requires c κs = search needs
 
+-- `return refuse(Refusal::SheetTooShort, so_far)`
 returns : tie.Need-returns
 unfolding processFrom readProcess
 returns c =
     let s = c .before .before .before in
     (c .refuse .ensures .0 ∙ sym (stop _ _ (too-few (bytes s) (at s) 5 (c .before .if1 .taken))), c .refuse .ensures .1 (bytes s) (known s))
 
+-- `let inputs = sheet[at + 2]`
 add-inputs : tie.Need-add-inputs
 add-inputs c = search needs
 
+-- `let inputs = sheet[at + 2]`
 shared-slice-read-inputs : tie.Need-shared-slice-read-inputs
 shared-slice-read-inputs c = search needs
 
+-- `let outputs = sheet[at + 3]`
 add-outputs : tie.Need-add-outputs
 add-outputs c = search needs
 
+-- `let outputs = sheet[at + 3]`
 shared-slice-read-outputs : tie.Need-shared-slice-read-outputs
 shared-slice-read-outputs c = search needs
 
+-- `let bound = sheet[at + 4]`
 add-bound : tie.Need-add-bound
 add-bound c = search needs
 
+-- `let bound = sheet[at + 4]`
 shared-slice-read-bound : tie.Need-shared-slice-read-bound
 shared-slice-read-bound c = search needs
 
+-- `if field_fault(architecture.variables, architecture.environment, inputs, outputs, bound)`
 field-fault-requires : tie.Need-field-fault-requires
 unfolding architectureOf
 field-fault-requires c κs = let z = known (entry (c .before .before .before .before)) .proper in (z .few-variables, z .few-environment)
 
+-- `return refuse(Refusal::BadProcess, so_far)`
 refuse-requires-2 : tie.Need-refuse-requires-2
 refuse-requires-2 c κs = search needs
 
+-- `return refuse(Refusal::BadProcess, so_far)`
 returns-2 : tie.Need-returns-2
 unfolding processFrom readProcess architectureOf
 returns-2 c =
@@ -122,9 +134,11 @@ returns-2 c =
     let fault = field-stops (architecture s) (process s) (sym (c .before .before .field-fault .ensures) ∙ c .before .if2 .taken) in
     (c .refuse2 .ensures .0 ∙ sym (go _ _ (whole w) ∙ stop _ _ fault), c .refuse2 .ensures .1 (bytes s) (known s))
 
+-- `return refuse(Refusal::BadProcess, so_far)`
 refuse-requires-3 : tie.Need-refuse-requires-3
 refuse-requires-3 c κs = search needs
 
+-- `return refuse(Refusal::BadProcess, so_far)`
 returns-3 : tie.Need-returns-3
 unfolding processFrom readProcess share
 returns-3 c =
@@ -134,21 +148,26 @@ returns-3 c =
     let fault = decides f ∙ ap not (ne-eqb _ _ (c .before .if3 .taken)) in
     (c .refuse3 .ensures .0 ∙ sym (go _ _ (whole w) ∙ stop _ _ fault), c .refuse3 .ensures .1 (bytes s) (known s))
 
+-- `architecture: architecture.with_process(inputs, outputs, bound),`
 with-process-requires : tie.Need-with-process-requires
 with-process-requires c κs = (known (start c) .arrays, start c .pre .1)
 
+-- `end: at + 5,`
 add-t9 : tie.Need-add-t9
 add-t9 c = search needs
 
+-- `total: so_far.total * wide(bound),`
 wide-requires : tie.Need-wide-requires
 wide-requires c κs = search needs
 
+-- `total: so_far.total * wide(bound),`
 mul-t22 : tie.Need-mul-t22
 mul-t22 c =
     let d = c .before .before .before .before in
     let total = ap (λ (x : ℕ). start d .args .so-far .total * x) (c .before .wide .ensures) in
     omega (arith, total, total-few (known (start d)) (start d .pre .1) (process (start d)) (sound d))
 
+-- `FrontRead`
 returns-4 : tie.Need-returns-4
 unfolding processFrom readProcess frontAs
 returns-4 c =

@@ -13,8 +13,8 @@ use Rattle.architecture.specs.Struct.{architectureOf}
 use Rattle.sheet.specs.declared.FrontRead.{FrontRead}
 use Rattle.sheet.specs.Struct.{frontOf, frontAs}
 use Rattle.sheet.specs.Steps.{processFrom}
-use Rattle.sheet.proofs.Tests.{fails, passes}
-use Rattle.sheet.proofs.Sheets.{front-refused, front-done}
+use Rattle.sheet.proofs.RefusalTests.{fails, passes}
+use Rattle.sheet.proofs.AnswersOfReading.{front-refused, front-done}
 use Rattle.sheet.proofs.OneProcessMore.{count-more}
 use Rattle.sheet.proofs.ReadingOn.{ProcessesRead, then-refused, then-proper, process-read, processes-none, processes-last, processes-turn}
 use Rattle.sheet.proofs.front.read_processes.Statement.{statement}
@@ -72,6 +72,7 @@ here c =
     sym (processes-turn (architecture l) (bytes l) (at l) 4 (count l) (below (c .before)) marked) ∙ l .loop .inv .rest
 
 -- ---- the needs
+-- `while read.architecture.processes < 4`
 loop-holds : tie.Need-loop-holds Inv-loop μ-loop
 loop-holds c =
     let s = c .before in
@@ -82,9 +83,11 @@ loop-holds c =
       rest = ap (λ (k : ℕ). readProcesses k (architectureOf (s .args .first .architecture)) (s .args .sheet .now) (s .args .first .end)) none;
     }
 
+-- `if !is_marked(sheet, read.end, &PR)`
 is-marked-requires : tie.Need-is-marked-requires Inv-loop μ-loop
 is-marked-requires c κs = c .before .before .before .loop .inv .known .inside
 
+-- `return read`
 returns : tie.Need-returns Inv-loop μ-loop
 returns c =
     let l = head (c .before) in
@@ -92,12 +95,15 @@ returns c =
     let none = processes-none (architecture l) (bytes l) (at l) (4 - count l) (not-true _ (fails (c .before .is-marked .ensures) (c .if2 .taken))) in
     (sym (ends (l .loop .read) i) ∙ sym none ∙ i .rest, i .known)
 
+-- `read = read_process(sheet, read)`
 read-process-requires : tie.Need-read-process-requires Inv-loop μ-loop
 read-process-requires c κs = (head (c .before) .loop .inv .known, below (c .before))
 
+-- `return read`
 enum-told : tie.Need-enum-told Inv-loop μ-loop
 enum-told c = search needs
 
+-- `return read`
 returns-2 : tie.Need-returns-2 Inv-loop μ-loop
 returns-2 c =
     let next = c .before .before .read-process in
@@ -106,6 +112,7 @@ returns-2 c =
     let refused = front-refused _ (next .result .answer) (next .result .architecture) (next .result .end) (next .ensures .0) (told .0 .0) (told .1) in
     (next .ensures .0 ∙ refused ∙ sym (then-refused (rest (head (marked .before))) refused) ∙ here marked, next .ensures .1)
 
+-- `return read`
 enum-told-2 : tie.Need-enum-told-2 Inv-loop μ-loop
 enum-told-2 c = search needs
 
@@ -132,15 +139,18 @@ counts c =
     let l = turn c in
     count-more (l .loop .read .architecture) _ _ (sym (ap (λ (f : Front). f .architecture) (process-read (architecture l) (bytes l) (at l) _ (done c))))
 
+-- `while read.architecture.processes < 4`
 loop-less : tie.Need-loop-less Inv-loop μ-loop
 loop-less c = omega (arith, counts c, below (marked c .before))
 
+-- `while read.architecture.processes < 4`
 loop-again : tie.Need-loop-again Inv-loop μ-loop
 loop-again c =
     let l = turn c in
     let onward = ap (λ (k : ℕ). readProcesses (4 - k) (architectureOf (next c .architecture)) (bytes l) (next c .end)) (counts c) in
     record { known = c .before .before .read-process .ensures .1; done = c .enum-told2 .given .1; rest = onward ∙ sym (then-proper (rest l) (done c)) ∙ here (marked c) }
 
+-- `read`
 returns-3 : tie.Need-returns-3 Inv-loop μ-loop
 returns-3 c =
     let l = c .before .before in

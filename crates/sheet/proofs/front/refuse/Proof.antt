@@ -4,6 +4,7 @@ use Rattle.sheet.specs.Struct.{frontAs}
 use Rattle.sheet.proofs.front.refuse.Statement.{statement}
 use Rattle.sheet.proofs.front.refuse.Tie as tie
 
+-- `FrontRead`
 returns : tie.Need-returns
 unfolding frontAs
 returns c = (refl, λ b z. record { arrays = z .arrays; proper = z .proper; inside = z .inside; owned-is = z .owned-is; total-is = z .total-is })

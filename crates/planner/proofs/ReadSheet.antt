@@ -7,7 +7,7 @@ use Rattle.model.specs.declared.Reply.{Reply}
 use Rattle.model.specs.Reading.{refused, proper, readSheet}
 use Rattle.sheet.specs.declared.Reading.{Reading}
 use Rattle.sheet.specs.Struct.{sheetOf, Arrays, IsProper, readingOf}
-use Rattle.sheet.proofs.Sheets.{read-refused, read-proper, read-is-proper}
+use Rattle.sheet.proofs.AnswersOfReading.{read-refused, read-proper, read-is-proper}
 
 module _ (sheet : List ℕ) (r : Reading) (e : readingOf r ≡ readSheet sheet) where
   pub refusal-is : (q : Refusal) → r .answer ≡ Reply.Refused q → readSheet sheet ≡ refused q

@@ -1,4 +1,4 @@
--- The entries of a choice by their places; and what holds for every entry of a sheet.
+-- The entries of a choice by their indexes; and what holds for every entry of a sheet.
 use mathlib.Core.Path.{_≡_, refl, sym, subst}
 use mathlib.Core.Bool.{true}
 use mathlib.Core.Logic.{⊎-elim}

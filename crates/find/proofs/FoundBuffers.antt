@@ -1,4 +1,4 @@
--- What find left in the buffers of the program, and what it answered. Assumes nothing.
+-- What find left in the buffers of the program, and what it answered.
 use mathlib.Core.Path.{_≡_, refl, sym, ap, _∙_, subst}
 use mathlib.Core.List.{List}
 use mathlib.Core.Option.{Option, none, some}
@@ -75,7 +75,8 @@ chose s old-book old-ann book ann g f = by (firstChoice s) refl f
       choice = c;
       first = e;
       is-choice = first-fits s c g e;
-      book-is = ap (λ (a : AfterFind). take (bookLength (s .architecture)) (a .book)) (sym f) ∙ front-is (bookOf (s .architecture) c) old-book (bookLength (s .architecture)) (book-length (s .architecture) c);
+      book-is = ap (λ (a : AfterFind). take (bookLength (s .architecture)) (a .book)) (sym f)
+          ∙ front-is (bookOf (s .architecture) c) old-book (bookLength (s .architecture)) (book-length (s .architecture) c);
       annotation-is = ap (λ (a : AfterFind). take (vertices s) (a .annotation)) (sym f) ∙ front-is (annotation s c) old-ann (vertices s) (annotation-whole s c);
     }
 
@@ -85,7 +86,11 @@ module _ (b old-book old-ann : List ℕ) (book-room : 338 ≤ length old-book) (
   unfolding findOf findIn findSheet roomToFind bookShort annotationShort _then_ refuse_when_else_
   find-proper s e =
       let g : ProperSheet s = sheet-proper b s e in
-      rw (e, le-ltb (length old-book) (bookLength (s .architecture)) (omega (arith, book-short (s .architecture) (g .architecture))), le-ltb (length old-ann) (vertices s) (omega (arith, vertices-few s g)))
+      rw (
+        e,
+        le-ltb (length old-book) (bookLength (s .architecture)) (omega (arith, book-short (s .architecture) (g .architecture))),
+        le-ltb (length old-ann) (vertices s) (omega (arith, vertices-few s g)),
+      )
 
   find-refused : (q : Refusal) → readSheet b ≡ refused q → findOf b old-book old-ann .answer ≡ Outcome.Refused q
   unfolding findOf findIn findSheet _then_
@@ -149,7 +154,8 @@ unfolding readingAs
 reading-is Reply.Done x s e = same-sheet (sheetOf x) s e
 reading-is (Reply.Refused r) x s e = let z : _≡_ {A = ℕ} 0 1 = cc in absurd (omega arith)
 
-pub found-proper : (b old-book old-ann book ann : List ℕ) (r : Reading) → readingOf r ≡ readSheet b → findOf b old-book old-ann ≡ found book ann → Proper b (sheetOf (r .sheet)) old-book old-ann book ann
+pub found-proper : (b old-book old-ann book ann : List ℕ) (r : Reading) → readingOf r ≡ readSheet b → findOf b old-book old-ann ≡ found book ann
+    → Proper b (sheetOf (r .sheet)) old-book old-ann book ann
 unfolding findOf findIn
 found-proper b old-book old-ann book ann r e f = by (findSheet b old-book old-ann) refl f
   where

@@ -14,7 +14,7 @@ use Rattle.model.specs.Calls.{AfterPart, noProcess, partFor, partArchitecture, 
 use Rattle.model.proofs.ProperSheet.{passes, goes-on, sheet-proper}
 use Rattle.model.proofs.Sizes.{book-short}
 use Rattle.model.proofs.PartIsRecords.{HasPart, part-right}
-use Rattle.book.proofs.Slots.{right-length}
+use Rattle.book.proofs.OneSlotMore.{right-length}
 
 -- from its start to its end, and no further than the book goes, which is at most 338 bytes
 pub record Within (p : AfterPart) (book : List ℕ) : Type 0 where
@@ -42,7 +42,8 @@ within sheet book i (proper a) e =
     let h₂ = passes NoSuchProcess (noProcess own i) _ (h₁ .2) in
     let h₃ = goes-on (readBook own book) _ (h₂ .1) in
     let same : own ≡ a = cc in
-    subst (λ (x : Architecture). Within (cut (proper x) i) book) same (part-long own book i (sheet-proper sheet (h₁ .0) (h₁ .1) .architecture) (read-long own book (h₃ .0) (h₃ .1)) (part-right own i (few own (h₂ .0))))
+    subst (λ (x : Architecture). Within (cut (proper x) i) book) same
+    (part-long own book i (sheet-proper sheet (h₁ .0) (h₁ .1) .architecture) (read-long own book (h₃ .0) (h₃ .1)) (part-right own i (few own (h₂ .0))))
   where
     few : (x : Architecture) → noProcess x i ≡ false → i < length (x .processes)
     few x f = leb-false _ _ f

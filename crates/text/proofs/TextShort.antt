@@ -16,10 +16,10 @@ use Rattle.model.specs.Sheet.{Process, Architecture, ProperProcess, ProperProce
 use Rattle.model.specs.Compose.{rowLength, rowAt, processLength}
 use Rattle.model.specs.Choice.{Entry, output, next, may, row, times, rows, entries, fits}
 use Rattle.model.proofs.FitsTest.{row-length}
-use Rattle.model.proofs.Compose.{times-length}
+use Rattle.model.proofs.ComposedNumbers.{times-length}
 use Rattle.text.specs.Text.{decimal, hex, line, field, fields, rowText, rowsText, tablesText, rowCount, unblank, textOf}
-use Rattle.text.proofs.Numbers.{decimal-few, decimal-short}
-use Rattle.text.proofs.Rows.{rowOf, row-first, row-next}
+use Rattle.text.proofs.DecimalLaws.{decimal-few, decimal-short}
+use Rattle.text.proofs.RowTexts.{rowOf, row-first, row-next}
 
 -- entries that fit, in two parts
 fits-parts : (es fs : List Entry) (c : List ℕ) → fits (es ++ fs) c ≡ true → (fits es c ≡ true) × (fits fs (drop (length es) c) ≡ true)

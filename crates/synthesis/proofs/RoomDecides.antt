@@ -1,4 +1,4 @@
--- What the room for a book and an annotation decides, and what is written where there is room. Assumes nothing.
+-- What the room for a book and an annotation decides, and what is written where there is room.
 use mathlib.Core.Path.{_≡_, refl, sym, ap, _∙_}
 use mathlib.Core.Bool.{true, false, not}
 use mathlib.Core.List.{List, _++_}
@@ -51,10 +51,12 @@ module _ (s : Sheet) (tables book ann : List ℕ) (choice : IsChoice (s .archite
   book-written =
       let rest : List ℕ = drop (length (entries (s .architecture))) tables in
       let fitting : fits (entries (s .architecture)) tables ≡ true = ap (fits (entries (s .architecture))) (sym whole) ∙ fits-front rest choice in
-      let same : bookOf (s .architecture) tables ≡ bookOf (s .architecture) (chosen (s .architecture) tables) = ap (bookOf (s .architecture)) (sym whole) ∙ filled-front (form (s .architecture)) (chosen (s .architecture) tables) rest (fits-length choice ∙ sym (holes-form (s .architecture))) in
+      let same : bookOf (s .architecture) tables ≡ bookOf (s .architecture) (chosen (s .architecture) tables) =
+      ap (bookOf (s .architecture)) (sym whole) ∙ filled-front (form (s .architecture)) (chosen (s .architecture) tables) rest (fits-length choice ∙ sym (holes-form (s .architecture))) in
       go _ _ (ap not fitting) ∙ go _ _ (passes BookBufferTooShort (bookShort (s .architecture) book) _ room .0) ∙ ap (λ (b : List ℕ). proper b) same
 
-  pub annotation-written : loops s (chosen (s .architecture) tables) ≡ false → annotated (roomFor s (chosen (s .architecture) tables) ann) ann .annotation ≡ front (annotation s (chosen (s .architecture) tables)) ann
+  pub annotation-written : loops s (chosen (s .architecture) tables) ≡ false
+      → annotated (roomFor s (chosen (s .architecture) tables) ann) ann .annotation ≡ front (annotation s (chosen (s .architecture) tables)) ann
   unfolding roomFor annotated annotatedBy roomToFind
   annotation-written keeps =
       let short = passes AnnotationBufferTooShort (annotationShort s ann) _ (passes BookBufferTooShort (bookShort (s .architecture) book) _ room .1) .0 in
