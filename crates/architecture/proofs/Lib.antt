@@ -1,2 +1,2 @@
-pub mod Masks
-pub mod Processes
+pub mod IndexCountBound
+pub mod ProcessesOfArrays

@@ -14,7 +14,7 @@ use Rattle.model.specs.Compose.{rowLength}
 use Rattle.model.specs.Choice.{Entry, output, next, may, row, times, rows, entries, fits}
 use Rattle.architecture.specs.declared.Architecture.{Architecture}
 use Rattle.architecture.specs.Struct.{IsProper, architectureOf, processIn, processesIn}
-use Rattle.architecture.proofs.Processes.{process-next, processes-end, entries-are, start-few}
+use Rattle.architecture.proofs.ProcessesOfArrays.{process-next, processes-end, entries-are, start-few}
 use Rattle.theory.proofs.ListLaws.{taken-next}
 use Rattle.append.proofs.Appending.{Opens, opens-codes, codes-same}
 use Rattle.choice.specs.Kinds.{kindOf, kindCode, rowCodes, processCodes}

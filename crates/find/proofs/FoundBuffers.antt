@@ -32,8 +32,8 @@ use Rattle.sheet.specs.declared.Reading.{Reading}
 use Rattle.sheet.specs.Struct.{sheetOf, readingAs, readingOf}
 use Rattle.book.specs.declared.TablesRead.{TablesRead}
 use Rattle.book.specs.Answers.{afterRead}
-use Rattle.graph.proofs.Chosen.{chosen-tables}
-use Rattle.graph.proofs.Whole.{vertices-few}
+use Rattle.graph.proofs.ChoiceAtFront.{chosen-tables}
+use Rattle.graph.proofs.TablesOfChoice.{vertices-few}
 use Rattle.text.specs.Text.{textOf, noneText, refusedText}
 use Rattle.text.proofs.TextReads.{text-front}
 use Rattle.find.specs.Printed.{choiceText, sheetText, printed, found}

@@ -13,7 +13,7 @@ use Rattle.model.specs.Book.{Slot, due, entry, records, allRecords, form, bookL
 use Rattle.model.proofs.Sizes.{book-short}
 use Rattle.architecture.specs.declared.Architecture.{Architecture}
 use Rattle.architecture.specs.Struct.{IsProper, architectureOf, processIn, processesIn}
-use Rattle.architecture.proofs.Processes.{process-next, processes-end}
+use Rattle.architecture.proofs.ProcessesOfArrays.{process-next, processes-end}
 use Rattle.append.proofs.Appending.{Opens, opens-codes, codes-same}
 use Rattle.layout.specs.Slots.{slotOf, slotCode, recordCodes, processCodes}
 

@@ -12,7 +12,7 @@ use Rattle.model.specs.Reading.{arFault, prFault}
 use Rattle.model.proofs.ProperSheet.{opening-proper, process-more}
 use Rattle.architecture.specs.declared.Architecture.{Architecture}
 use Rattle.architecture.specs.Struct.{architectureOf, processesIn, Arrays}
-use Rattle.architecture.proofs.Processes.{count-is}
+use Rattle.architecture.proofs.ProcessesOfArrays.{count-is}
 use Rattle.sheet.specs.declared.FrontRead.{FrontRead}
 use Rattle.sheet.specs.Struct.{outputsOf, FrontKnown}
 use Rattle.sheet.proofs.OwnedOutputs.{outputs-more}

@@ -12,7 +12,7 @@ use Rattle.model.specs.Compose.{rowLength, rowAt}
 use Rattle.model.specs.Choice.{entries}
 use Rattle.architecture.specs.Struct.{processesOf, architectureOf, entriesOf, processIn, firstIn, processesIn}
 use Rattle.architecture.specs.declared.Architecture.{Architecture}
-use Rattle.architecture.proofs.Processes.{row-inside, entries-are, entries-turn, start-next, process-next, processes-end}
+use Rattle.architecture.proofs.ProcessesOfArrays.{row-inside, entries-are, entries-turn, start-next, process-next, processes-end}
 use Rattle.append.proofs.Appending.{Opens}
 use Rattle.text.specs.Text.{field, fields, rowText, rowsText, tablesText}
 

@@ -11,7 +11,7 @@ use Rattle.model.specs.Compose.{rowLength, rowAt, processLength}
 use Rattle.model.specs.Choice.{entries, IsChoice}
 use Rattle.model.proofs.FitsTest.{fits-length}
 use Rattle.architecture.specs.Struct.{entriesOf}
-use Rattle.architecture.proofs.Processes.{rows-length}
+use Rattle.architecture.proofs.ProcessesOfArrays.{rows-length}
 use Rattle.text.specs.Text.{rowText, rowsText, tablesText, textOf}
 use Rattle.text.proofs.RowTexts.{rowOf, row-first, row-next}
 

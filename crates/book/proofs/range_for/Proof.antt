@@ -11,7 +11,7 @@ use Rattle.model.specs.Book.{readBook, partEnd}
 use Rattle.model.specs.Calls.{AfterRead, noProcess, gave, cut, partFor}
 use Rattle.architecture.specs.Struct.{architectureOf}
 use Rattle.model.proofs.Refusing.{stop, go}
-use Rattle.architecture.proofs.Processes.{count-is}
+use Rattle.architecture.proofs.ProcessesOfArrays.{count-is}
 use Rattle.book.proofs.ReadingAnswers.{gave-refused, gave-done}
 use Rattle.book.proofs.range_for.Statement.{statement}
 use Rattle.book.proofs.range_for.Tie as tie

@@ -9,7 +9,7 @@ use borrow.Author.Needs.{needs}
 use Rattle.model.specs.Sheet.{Process}
 use Rattle.model.specs.Choice.{row, times}
 use Rattle.architecture.specs.Struct.{processIn}
-use Rattle.architecture.proofs.Processes.{facts, row-is}
+use Rattle.architecture.proofs.ProcessesOfArrays.{facts, row-is}
 use Rattle.append.proofs.Appending.{Appending, Opens, appending-none, appending-next, appending-length, appending-room, appending-all}
 use Rattle.choice.specs.Kinds.{kindCode, rowCodes, processCodes}
 use Rattle.choice.proofs.KindWords.{row-codes, rows-open}

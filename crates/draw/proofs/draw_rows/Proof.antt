@@ -8,7 +8,7 @@ use borrow.Author.Needs.{needs}
 use Rattle.model.specs.Compose.{rowAt}
 use Rattle.architecture.specs.declared.Architecture.{Architecture}
 use Rattle.architecture.specs.Struct.{IsProper, processIn, firstIn, entriesOf}
-use Rattle.architecture.proofs.Processes.{facts, row-is, row-pos}
+use Rattle.architecture.proofs.ProcessesOfArrays.{facts, row-is, row-pos}
 use Rattle.text.proofs.RowTexts.{row-within}
 use Rattle.draw.proofs.draw_rows.Statement.{statement}
 use Rattle.draw.proofs.draw_rows.Tie as tie

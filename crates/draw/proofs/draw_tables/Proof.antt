@@ -4,7 +4,7 @@ use Prim.Native.Nat.{_-_}
 use native.Mathlib.Omega.{arith}
 use borrow.Author.Needs.{needs}
 use Rattle.architecture.specs.Struct.{IsProper}
-use Rattle.architecture.proofs.Processes.{facts, entries-are, start-few}
+use Rattle.architecture.proofs.ProcessesOfArrays.{facts, entries-are, start-few}
 use Rattle.draw.proofs.draw_tables.Statement.{statement}
 use Rattle.draw.proofs.draw_tables.Tie as tie
 

@@ -8,7 +8,7 @@ use Rattle.architecture.specs.Struct.{IsProper}
 use Rattle.automaton.specs.Struct.{automatonOf}
 use Rattle.sheet.specs.Struct.{sheetOf}
 use Rattle.sheet.proofs.AnswersOfReading.{architecture-proper}
-use Rattle.graph.proofs.Whole.{vertices-few}
+use Rattle.graph.proofs.TablesOfChoice.{vertices-few}
 use Rattle.text.specs.Holds.{Holds}
 use Rattle.find.proofs.FoundBuffers.{Chose, chose, book-whole, annotation-ends, annotation-counted, are-choice, text-is}
 use Rattle.find.proofs.choice_text.Statement.{statement}

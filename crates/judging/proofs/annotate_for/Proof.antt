@@ -6,7 +6,7 @@ use Rattle.model.specs.Calls.{annotated, bookFor}
 use Rattle.sheet.specs.Struct.{sheetOf}
 use Rattle.architecture.specs.Struct.{architectureOf}
 use Rattle.sheet.proofs.AnswersOfReading.{architecture-proper}
-use Rattle.judging.proofs.Read.{Chose, was-refused, was-read}
+use Rattle.judging.proofs.BookGivesChoice.{Chose, was-refused, was-read}
 use Rattle.judging.proofs.annotate_for.Statement.{statement}
 use Rattle.judging.proofs.annotate_for.Tie as tie
 

@@ -19,8 +19,8 @@ use Rattle.model.proofs.Refusing.{stop, go}
 use Rattle.annotation.specs.declared.Answer.{Answer}
 use Rattle.annotation.specs.Answers.{Says}
 use Rattle.model.specs.Choice.{chosen}
-use Rattle.graph.proofs.Whole.{vertices-few}
-use Rattle.graph.proofs.Same.{tables-sized, tables-loop, tables-annotation}
+use Rattle.graph.proofs.TablesOfChoice.{vertices-few}
+use Rattle.graph.proofs.TablesAreRunGraph.{tables-sized, tables-loop, tables-annotation}
 use Rattle.judging.proofs.annotate_tables.Statement.{statement}
 use Rattle.judging.proofs.annotate_tables.Tie as tie
 

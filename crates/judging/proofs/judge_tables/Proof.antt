@@ -13,8 +13,8 @@ use Rattle.model.specs.Calls.{annotationShort, judged, roomFor}
 use Rattle.sheet.specs.Struct.{sheetOf}
 use Rattle.model.proofs.Refusing.{stop, go}
 use Rattle.model.specs.Choice.{chosen}
-use Rattle.graph.proofs.Whole.{vertices-few}
-use Rattle.graph.proofs.Same.{tables-sized, tables-judge}
+use Rattle.graph.proofs.TablesOfChoice.{vertices-few}
+use Rattle.graph.proofs.TablesAreRunGraph.{tables-sized, tables-judge}
 use Rattle.judging.proofs.judge_tables.Statement.{statement}
 use Rattle.judging.proofs.judge_tables.Tie as tie
 

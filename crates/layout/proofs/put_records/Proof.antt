@@ -10,7 +10,7 @@ use Rattle.model.specs.Sheet.{Process}
 use Rattle.model.specs.Compose.{rowLength}
 use Rattle.model.specs.Book.{records}
 use Rattle.architecture.specs.Struct.{processIn}
-use Rattle.architecture.proofs.Processes.{facts, row-is}
+use Rattle.architecture.proofs.ProcessesOfArrays.{facts, row-is}
 use Rattle.append.proofs.Appending.{Appending, Opens, appending-none, appending-next, appending-length, appending-room, appending-all}
 use Rattle.layout.specs.Slots.{slotCode, recordCodes, processCodes}
 use Rattle.layout.proofs.FormWords.{records-open}

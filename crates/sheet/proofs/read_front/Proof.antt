@@ -14,7 +14,7 @@ use Rattle.sheet.specs.Struct.{FrontKnown}
 use Rattle.model.proofs.Refusing.{stop, go}
 use Rattle.sheet.proofs.RefusalTests.{fails, passes, too-few, enough}
 use Rattle.sheet.proofs.AnswersOfReading.{front-proper}
-use Rattle.architecture.proofs.Processes.{count-is}
+use Rattle.architecture.proofs.ProcessesOfArrays.{count-is}
 use Rattle.sheet.proofs.ReadingOn.{opening, front-is}
 use Rattle.sheet.proofs.read_front.Statement.{statement}
 use Rattle.sheet.proofs.read_front.Tie as tie

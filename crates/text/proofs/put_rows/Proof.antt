@@ -9,7 +9,7 @@ use Rattle.model.specs.Sheet.{Process}
 use Rattle.model.specs.Compose.{rowLength}
 use Rattle.architecture.specs.declared.Architecture.{Architecture}
 use Rattle.architecture.specs.Struct.{processIn, firstIn, entriesOf}
-use Rattle.architecture.proofs.Processes.{facts, row-is, row-pos}
+use Rattle.architecture.proofs.ProcessesOfArrays.{facts, row-is, row-pos}
 use Rattle.append.proofs.Appending.{Appending, Opens, appending-none, appending-next, appending-length, appending-room, appending-all}
 use Rattle.text.specs.Text.{rowText, rowsText}
 use Rattle.text.proofs.RowTexts.{rowOf, rows-open, rows-end, row-part, row-within}

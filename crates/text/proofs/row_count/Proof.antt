@@ -4,7 +4,7 @@ use Prim.Native.Nat.{_+_, _-_, _*_, _≤_}
 use native.Mathlib.Omega.{arith}
 use lib.ListN.{drop}
 use Rattle.architecture.specs.Struct.{processesIn}
-use Rattle.architecture.proofs.Processes.{facts, process-next, processes-end}
+use Rattle.architecture.proofs.ProcessesOfArrays.{facts, process-next, processes-end}
 use Rattle.text.specs.Text.{rowCount}
 use Rattle.text.proofs.row_count.Statement.{statement}
 use Rattle.text.proofs.row_count.Tie as tie

@@ -30,7 +30,8 @@ returns c =
     let u = c .args .t1 in
     let e = c .args .edge in
     let z = c .pre .0 in (
-      rw (edges-more (u .edges) (u .from) (u .to) (u .on) (u .off) (e .from) (e .to) (e .on) (e .off) (omega (arith, z .from-long)) (omega (arith, z .to-long)) (omega (arith, z .on-long)) (omega (arith, z .off-long))),
+      rw
+          (edges-more (u .edges) (u .from) (u .to) (u .on) (u .off) (e .from) (e .to) (e .on) (e .off) (omega arith) (omega arith) (omega arith) (omega arith)),
       (
         record {
           few-edges = omega arith;

@@ -13,7 +13,7 @@ use Rattle.architecture.specs.Struct.{architectureOf}
 use Rattle.sheet.specs.Struct.{FrontKnown}
 use Rattle.model.proofs.Refusing.{stop, go}
 use Rattle.sheet.proofs.RefusalTests.{too-few, enough, reads-as}
-use Rattle.architecture.proofs.Processes.{count-is}
+use Rattle.architecture.proofs.ProcessesOfArrays.{count-is}
 use Rattle.sheet.proofs.ReadingEdges.{fields, automaton-is}
 use Rattle.sheet.proofs.behind.read_automaton.Statement.{statement}
 use Rattle.sheet.proofs.behind.read_automaton.Tie as tie

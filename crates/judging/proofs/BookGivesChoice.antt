@@ -13,7 +13,7 @@ use Rattle.model.proofs.DemandTwo.{read-right}
 use Rattle.book.specs.declared.TablesRead.{TablesRead}
 use Rattle.book.specs.Answers.{afterRead}
 use Rattle.book.proofs.ReadingAnswers.{gave-refused, gave-done}
-use Rattle.graph.proofs.Chosen.{chosen-tables}
+use Rattle.graph.proofs.ChoiceAtFront.{chosen-tables}
 
 -- the choice of the book is at the front of the tables
 pub record Chose (a : Architecture) (book tables : List ℕ) : Type 0 where

@@ -1,4 +1,5 @@
--- The processes of three arrays, and what follows from each: its entries, its rows and its composed states, one process at a time.
+-- The processes of three arrays are those that an architecture has, one at a time: what each adds to the entries, the rows and the composed states,
+-- and the bounds that a proper architecture sets.
 use mathlib.Core.Path.{_≡_, refl, sym, ap, ap₂, _∙_, subst}
 use mathlib.Core.Logic.{_⊎_, inl, inr, ⊎-elim}
 use mathlib.Core.List.{List, [], _∷_, _++_, List·Memᴰ, List·Memᴰ·head, List·Memᴰ·tail}
@@ -73,7 +74,9 @@ module _ (i o b : List ℕ) where
   -- from j on, and from j + 1 on
   pub process-next : (n j : ℕ) → j < n → drop j (processesOf n i o b) ≡ processOf i o b j ∷ drop (j + 1) (processesOf n i o b)
   process-next n j h =
-      rw (add-one j) (drop-cons (processesOf n i o b) j noProcess (omega (arith, processes-length n i o b)) ∙ ap (λ (p : Process). p ∷ drop (suc j) (processesOf n i o b)) (processes-at n j noProcess h))
+      let ps = processesOf n i o b in
+      rw (add-one j)
+      (drop-cons ps j noProcess (omega (arith, processes-length n i o b)) ∙ ap (λ (p : Process). p ∷ drop (suc j) ps) (processes-at n j noProcess h))
 
   pub processes-end : (n : ℕ) → drop n (processesOf n i o b) ≡ []
   processes-end n = drop-of-length-le (processesOf n i o b) {i = n} (omega (arith, processes-length n i o b))
