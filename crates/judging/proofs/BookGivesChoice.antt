@@ -1,4 +1,4 @@
--- What a book that was read gives: its refusal, or a choice at the front of the tables.
+-- A book that was read gives its refusal, or tables with its choice at the front.
 use mathlib.Core.Path.{_≡_, sym, ap, subst, _∙_}
 use mathlib.Core.List.{List}
 use Prim.Native.Nat.{ℕ}

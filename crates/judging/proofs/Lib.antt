@@ -1,2 +1,3 @@
--- the laws that the proofs of the functions cite
+-- What the proofs of several functions use.
 pub mod BookGivesChoice
+pub mod RoomForNumbers

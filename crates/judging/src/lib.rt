@@ -65,7 +65,9 @@ pub fn annotate_tables(sheet: Sheet, tables: &[u8], annotation: &mut [u16]) -> V
     requires { ⌜ IsProper sheet ⌝ }
     requires { ⌜ IsChoice (architectureOf (sheet .architecture)) (chosen (architectureOf (sheet .architecture)) (now tables)) ⌝ }
     ensures { λ r. ⌜ r ≡ annotated (roomFor (sheetOf sheet) (chosen (architectureOf (sheet .architecture)) (now (tables .entry))) (now (annotation .entry))) (now (annotation .entry)) .answer ⌝ }
-    ensures { λ _. ⌜ now (annotation .exit) ≡ annotated (roomFor (sheetOf sheet) (chosen (architectureOf (sheet .architecture)) (now (tables .entry))) (now (annotation .entry))) (now (annotation .entry)) .annotation ⌝ }
+    ensures { λ _.
+        ⌜ now (annotation .exit)
+        ≡ annotated (roomFor (sheetOf sheet) (chosen (architectureOf (sheet .architecture)) (now (tables .entry))) (now (annotation .entry))) (now (annotation .entry)) .annotation ⌝ }
 {
     let mut targets = [0u16; 4096];
     let mut steps = [0u16; 4096];

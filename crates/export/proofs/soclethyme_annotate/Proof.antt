@@ -1,4 +1,4 @@
--- `export::soclethyme_annotate` meets its contract. Assumes nothing.
+-- `export::soclethyme_annotate` meets its contract: the number is that of the planner's verdict, and the annotation is as the planner left it.
 use mathlib.Core.Path.{ap, _∙_}
 use borrow.Author.Needs.{needs}
 use Rattle.model.specs.Numbers.{verdictCode}
@@ -15,7 +15,7 @@ same-length : tie.Need-same-length
 same-length c = search needs
 
 returns : tie.Need-returns
-returns c = (c .verdict-code .ensures ∙ ap verdictCode (c .before .before .before .annotate .ensures .0), c .before .before .before .annotate .ensures .1)
+returns c = let a = c .before .before .before .annotate .ensures in (c .verdict-code .ensures ∙ ap verdictCode (a .0), a .1)
 
 pub soclethyme-annotate-spec : {M : Type 1} → statement M
 soclethyme-annotate-spec =

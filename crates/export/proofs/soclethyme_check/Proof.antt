@@ -1,4 +1,4 @@
--- `export::soclethyme_check` meets its contract. Assumes nothing.
+-- `export::soclethyme_check` meets its contract: the number is that of the planner's reply.
 use mathlib.Core.Path.{ap, _∙_}
 use borrow.Author.Needs.{needs}
 use Rattle.model.specs.Numbers.{replyCode}

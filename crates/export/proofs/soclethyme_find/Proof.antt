@@ -1,4 +1,4 @@
--- `export::soclethyme_find` meets its contract. Assumes nothing.
+-- `export::soclethyme_find` meets its contract: the number is that of the planner's outcome, and both buffers are as the planner left them.
 use mathlib.Core.Path.{ap, _∙_}
 use borrow.Author.Needs.{needs}
 use Rattle.model.specs.Numbers.{outcomeCode}

@@ -1,4 +1,4 @@
--- `export::soclethyme_judge` meets its contract. Assumes nothing.
+-- `export::soclethyme_judge` meets its contract: the number is that of the planner's verdict.
 use mathlib.Core.Path.{ap, _∙_}
 use borrow.Author.Needs.{needs}
 use Rattle.model.specs.Numbers.{verdictCode}

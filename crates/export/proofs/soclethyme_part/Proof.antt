@@ -1,4 +1,5 @@
--- `export::soclethyme_part` meets its contract: a part ends by byte 338, so the number fits. Assumes nothing.
+-- `export::soclethyme_part` meets its contract: what the code finds as the answer is the answer of `partOf`, and a part ends by byte 338, so that the
+-- number fits.
 use mathlib.Core.Path.{_≡_, sym, ap, _∙_}
 use Prim.Native.Nat.{_+_, _*_}
 use native.Mathlib.Omega.{arith}
@@ -23,35 +24,42 @@ number-requires c κs = search needs
 enum-told : tie.Need-enum-told
 enum-told c = search needs
 
+-- where the planner has given the range, once it is told that it did
+abbrev given : tie.After-struct-known → tie.After-range
+given c = c .before .before .before
+
 -- where the part is
 inside : (c : tie.After-range) → Within (afterPart (c .range .result)) (c .before .before .before .args .book .now)
 inside c = let a = c .before .before .before .args in rw (c .range .ensures) (part-within (a .sheet .now) (a .book .now) (a .process))
 
+-- the answer is that of `partOf`
+answered : (r : tie.After-range) (x : Reply) → r .range .result .answer ≡ x → let a = r .before .before .before .args in partOf (a .sheet .now) (a .book .now) (a .process) .answer ≡ x
+answered r x e = sym (ap (λ (y : AfterPart). y .answer) (r .range .ensures)) ∙ e
+
 cast-result : tie.Need-cast-result
-cast-result c = omega (arith, inside (c .before .before .before) .short)
+cast-result c = omega (arith, inside (given c) .short)
 
 mul-result : tie.Need-mul-result
-mul-result c = omega (arith, inside (c .before .before .before) .short)
+mul-result c = omega (arith, inside (given c) .short)
 
 cast-result-2 : tie.Need-cast-result-2
-cast-result-2 c = omega (arith, inside (c .before .before .before .before) .rising, inside (c .before .before .before .before) .short)
+cast-result-2 c = let i = inside (given (c .before)) in omega (arith, i .rising, i .short)
 
 add-result : tie.Need-add-result
-add-result c = omega (arith, inside (c .before .before .before .before) .rising, inside (c .before .before .before .before) .short)
+add-result c = let i = inside (given (c .before)) in omega (arith, i .rising, i .short)
 
 returns : tie.Need-returns
 unfolding partBy
 returns c =
-    let a = c .before .before .before .before .before .before .before .args in
-    let e : partOf (a .sheet .now) (a .book .now) (a .process) .answer ≡ Reply.Refused (c .before .before .answer .given .0 .0) = sym (ap (λ (x : AfterPart). x .answer) (c .before .before .before .before .range .ensures)) ∙ c .before .before .answer .given .1 in
+    let e = answered (c .before .before .before .before) _ (c .before .before .answer .given .1) in
     rw e (c .number .ensures)
 
 returns-2 : tie.Need-returns-2
 unfolding partBy
 returns-2 c =
-    let a = c .before .before .before .before .before .before .before .args in
-    let e : partOf (a .sheet .now) (a .book .now) (a .process) .answer ≡ Reply.Done = sym (ap (λ (x : AfterPart). x .answer) (c .before .before .before .before .range .ensures)) ∙ c .before .before .enum-told .given .1 in
-    rw e (ap (λ (x : AfterPart). x .end * 65536 + x .start) (c .before .before .before .before .range .ensures))
+    let r = given (c .before) in
+    let e = answered r _ (c .before .before .enum-told .given .1) in
+    rw e (ap (λ (x : AfterPart). x .end * 65536 + x .start) (r .range .ensures))
 
 pub soclethyme-part-spec : {M : Type 1} → statement M
 soclethyme-part-spec =

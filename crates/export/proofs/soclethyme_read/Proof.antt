@@ -1,4 +1,4 @@
--- `export::soclethyme_read` meets its contract. Assumes nothing.
+-- `export::soclethyme_read` meets its contract: what the code finds as the answer is the answer of `readOf`, which decides whether the tables change.
 use mathlib.Core.Path.{_≡_, refl, sym, ap, _∙_}
 use borrow.Author.Needs.{needs}
 use Rattle.model.specs.declared.Reply.{Reply}
@@ -6,6 +6,10 @@ use Rattle.model.specs.Calls.{AfterRead, readOf}
 use Rattle.export.specs.After.{tablesBy}
 use Rattle.export.proofs.soclethyme_read.Statement.{statement}
 use Rattle.export.proofs.soclethyme_read.Tie as tie
+
+-- the answer is that of `readOf`
+answered : (r : tie.After-read) (x : Reply) → r .read .result .answer ≡ x → let a = r .before .before .before .args in readOf (a .sheet .now) (a .book .now) .answer ≡ x
+answered r x e = sym (ap (λ (y : AfterRead). y .answer) (r .read .ensures)) ∙ e
 
 read-requires : tie.Need-read-requires
 read-requires c κs = search needs
@@ -22,16 +26,15 @@ enum-told c = search needs
 returns : tie.Need-returns
 unfolding tablesBy
 returns c =
-    let a = c .before .before .before .before .before .before .before .args in
-    let e : readOf (a .sheet .now) (a .book .now) .answer ≡ Reply.Refused (c .before .before .answer .given .0 .0) = sym (ap (λ (x : AfterRead). x .answer) (c .before .before .before .before .read .ensures)) ∙ c .before .before .answer .given .1 in
+    let e = answered (c .before .before .before .before) _ (c .before .before .answer .given .1) in
     rw e (c .number .ensures, refl)
 
 returns-2 : tie.Need-returns-2
 unfolding tablesBy
 returns-2 c =
-    let a = c .before .before .before .before .before .before .args in
-    let e : readOf (a .sheet .now) (a .book .now) .answer ≡ Reply.Done = sym (ap (λ (x : AfterRead). x .answer) (c .before .before .before .read .ensures)) ∙ c .before .enum-told .given .1 in
-    rw e (refl, ap (λ (x : AfterRead). x .tables) (c .before .before .before .read .ensures))
+    let r = c .before .before .before in
+    let e = answered r _ (c .before .enum-told .given .1) in
+    rw e (refl, ap (λ (x : AfterRead). x .tables) (r .read .ensures))
 
 pub soclethyme-read-spec : {M : Type 1} → statement M
 soclethyme-read-spec =

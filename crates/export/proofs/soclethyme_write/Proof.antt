@@ -1,4 +1,4 @@
--- `export::soclethyme_write` meets its contract. Assumes nothing.
+-- `export::soclethyme_write` meets its contract: the number is that of the planner's reply, and the book is as the planner left it.
 use mathlib.Core.Path.{ap, _∙_}
 use borrow.Author.Needs.{needs}
 use Rattle.model.specs.Numbers.{replyCode}
@@ -15,7 +15,7 @@ same-length : tie.Need-same-length
 same-length c = search needs
 
 returns : tie.Need-returns
-returns c = (c .reply-code .ensures ∙ ap replyCode (c .before .before .before .write .ensures .0), c .before .before .before .write .ensures .1)
+returns c = let w = c .before .before .before .write .ensures in (c .reply-code .ensures ∙ ap replyCode (w .0), w .1)
 
 pub soclethyme-write-spec : {M : Type 1} → statement M
 soclethyme-write-spec = tie.close (tie.spec write-requires reply-code-requires same-length returns)

@@ -1,4 +1,4 @@
--- `judging::annotate_for` meets its contract: the book is read, and then annotated. Assumes nothing.
+-- `judging::annotate_for` meets its contract: a book that is refused says so, and of one that is read the choice is at the front of the tables that are annotated.
 use mathlib.Core.Path.{refl}
 use borrow.Author.Needs.{needs}
 use Rattle.model.specs.Reading.{_then_}
@@ -22,25 +22,38 @@ enum-told c = search needs
 slice-aggregate-annotate-tables : tie.Need-slice-aggregate-annotate-tables
 slice-aggregate-annotate-tables c = search needs
 
+-- ---- positions: where the book is read, and where the function is entered
+abbrev reading : tie.After-enum-told → tie.After-read-for
+reading c = c .before .before
+
+abbrev entry : tie.After-read-for → tie.Start
+entry r = r .before .before .before .before
+
 -- the choice of the book
-choice : (c : tie.After-enum-told) → let a = c .before .before .before .before .before .before .args in Chose (architectureOf (a .sheet .architecture)) (a .book .now) (c .before .before .read-for .result .tables)
-choice c = was-read _ _ (c .before .before .read-for .result) (c .before .before .read-for .ensures) (c .enum-told .given .1)
+choice : (c : tie.After-enum-told) → let a = entry (reading c) .args in
+    Chose (architectureOf (a .sheet .architecture)) (a .book .now) (reading c .read-for .result .tables)
+choice c = was-read _ _ (reading c .read-for .result) (reading c .read-for .ensures) (c .enum-told .given .1)
 
 annotate-tables-requires : tie.Need-annotate-tables-requires
-annotate-tables-requires c κs = (c .before .before .before .before .before .before .before .before .before .pre, choice (c .before .before .before) .is-choice)
+annotate-tables-requires c κs =
+    let t = c .before .before .before in
+    (entry (reading t) .pre, choice t .is-choice)
 
 returns : tie.Need-returns
 unfolding bookFor _then_ annotated
 returns c =
-    let a = c .before .before .before .before .before .before .before .args in
-    rw (was-refused (architectureOf (a .sheet .architecture)) (a .book .now) (c .before .before .before .read-for .result) (c .before .before .before .read-for .ensures) (c .before .answer .given .1)) (refl, refl)
+    let r = c .before .before .before in
+    let a = entry r .args in
+    rw (was-refused (architectureOf (a .sheet .architecture)) (a .book .now) (r .read-for .result) (r .read-for .ensures) (c .before .answer .given .1)) (refl, refl)
 
 same-length : tie.Need-same-length
 same-length c = search needs
 
 returns-2 : tie.Need-returns-2
 unfolding bookFor _then_
-returns-2 c = rw (choice (c .before .before .before .before .before .before) .is-read) (c .before .before .annotate-tables .ensures .0, c .before .before .annotate-tables .ensures .1)
+returns-2 c =
+    let t = c .before .before in
+    rw (choice (t .before .before .before .before) .is-read) (t .annotate-tables .ensures .0, t .annotate-tables .ensures .1)
 
 pub annotate-for-spec : {M : Type 1} → statement M
 annotate-for-spec =

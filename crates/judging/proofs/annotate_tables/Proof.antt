@@ -1,46 +1,76 @@
--- `judging::annotate_tables` meets its contract: the tables are those of the run graph, and so are the numbers. Assumes nothing.
-use mathlib.Core.Path.{_≡_, refl, ap, ap₂, subst, _∙_}
+-- `judging::annotate_tables` meets its contract: the tables are those of the run graph, so that the numbering finds a loop where the run graph has one, and
+-- its annotation otherwise.
+use mathlib.Core.Path.{_≡_, refl, ap, subst, _∙_}
 use mathlib.Core.Bool.{true, false}
-use mathlib.Core.Logic.{⊎-elim}
+use mathlib.Core.Logic.{⊎-elim, _↔_}
 use mathlib.Core.List.{List}
 use Prim.Native.Nat.{ℕ, _*_}
 use native.Mathlib.Omega.{arith}
-use borrow.Author.Tests.{lt-ltb, le-ltb}
 use borrow.Author.Needs.{needs}
+use Rattle.theory.specs.Graph as graph
 use Rattle.theory.proofs.Bools.{bool-cases}
 use Rattle.model.specs.declared.Refusal.the-variants.{AnnotationBufferTooShort}
 use Rattle.model.specs.Reading.{refused, proper}
-use Rattle.model.specs.RunGraph.{vertices}
+use Rattle.model.specs.RunGraph.{vertices, RejectingLoop}
 use Rattle.model.specs.Computed.{loops}
-use Rattle.model.specs.Calls.{front, annotationShort, annotatedBy, annotated, roomFor}
+use Rattle.model.specs.Calls.{front, annotatedBy, annotated, roomFor}
 use Rattle.model.proofs.ComputedTests.{loops-exactly}
 use Rattle.sheet.specs.Struct.{sheetOf}
-use Rattle.model.proofs.Refusing.{stop, go}
 use Rattle.annotation.specs.declared.Answer.{Answer}
 use Rattle.annotation.specs.Answers.{Says}
+use Rattle.annotation.specs.Tables.{tableGraph}
 use Rattle.model.specs.Choice.{chosen}
-use Rattle.graph.proofs.TablesOfChoice.{vertices-few}
+use Rattle.graph.proofs.TablesOfChoice.{vertices-few, shape-size}
 use Rattle.graph.proofs.TablesAreRunGraph.{tables-sized, tables-loop, tables-annotation}
+use Rattle.judging.proofs.RoomForNumbers.{too-short, long-enough}
 use Rattle.judging.proofs.annotate_tables.Statement.{statement}
 use Rattle.judging.proofs.annotate_tables.Tie as tie
+
+-- ---- positions: where the function is entered, where the tables are filled, where the annotation is long enough, and where the vertices are numbered
+abbrev entry : tie.After-fill → tie.Start
+entry f = f .before .before .before .before .before
+
+abbrev filled : tie.Else1 → tie.After-fill
+filled c = c .before .before
+
+abbrev roomy : tie.After-steps2 → tie.Else1
+roomy c = c .before .before .before .before .before
+
+abbrev numbered : tie.After-numbers2 → tie.After-number
+numbered c = c .before .before .before .before
 
 fill-requires : tie.Need-fill-requires
 fill-requires c κs = search needs
 
 -- how many vertices there are
-size-is : (c : tie.After-fill) → c .fill .result .states * c .fill .result .total ≡ vertices (sheetOf (c .before .before .before .before .before .args .sheet))
-unfolding vertices
-size-is c = ap₂ (λ (m n : ℕ). m * n) (c .fill .ensures .shape-is .states) (c .fill .ensures .shape-is .total)
+size-is : (f : tie.After-fill) → f .fill .result .states * f .fill .result .total ≡ vertices (sheetOf (entry f .args .sheet))
+size-is f = shape-size _ _ (f .fill .ensures .shape-is)
+
+-- a rejecting loop of the tables is one of the choice
+loop-is : (f : tie.After-fill) → let a = entry f .args in let r = f .fill in
+    graph.RejectingLoop (tableGraph (r .result) (r .last .0) (r .last .1 .0)) ↔ RejectingLoop (sheetOf (a .sheet)) (chosen (sheetOf (a .sheet) .architecture) (a .tables .now))
+loop-is f =
+    let p = entry f .pre in
+    let r = f .fill in
+    tables-loop _ _ (p .0 .proper) (p .1) (r .result) (r .last .0) (r .last .1 .0) (r .ensures)
+
+-- what the numbering says
+said : (n : tie.After-number) (x : Answer) → n .number .result ≡ x → let r = filled (roomy (n .before)) .fill in
+    Says (r .result) (r .last .0) (r .last .1 .0) (n .number .last .0) x
+said n x e =
+    let r = filled (roomy (n .before)) .fill in
+    subst (λ (y : Answer). Says (r .result) (r .last .0) (r .last .1 .0) (n .number .last .0) y) e (n .number .ensures .0)
 
 mul-n : tie.Need-mul-n
-mul-n c = omega (arith, size-is (c .before), vertices-few _ (c .before .before .before .before .before .before .pre .0 .proper))
+mul-n c = omega (arith, size-is (c .before), vertices-few _ (entry (c .before) .pre .0 .proper))
 
 returns : tie.Need-returns
-unfolding roomFor annotationShort annotated
+unfolding annotated
 returns c =
-    let a = c .before .before .before .before .before .before .before .args in
+    let f = c .before .before in
+    let a = entry f .args in
     let s = sheetOf (a .sheet) in
-    let e : roomFor s (chosen (s .architecture) (a .tables .now)) (a .annotation .now) ≡ refused AnnotationBufferTooShort = stop _ _ (lt-ltb _ _ (rw (size-is (c .before .before)) at (c .if1 .taken))) in
+    let e : roomFor s (chosen (s .architecture) (a .tables .now)) (a .annotation .now) ≡ refused AnnotationBufferTooShort = too-short _ _ _ _ (size-is f) (c .if1 .taken) in
     rw e (refl, refl)
 
 slice-aggregate-number : tie.Need-slice-aggregate-number
@@ -50,15 +80,15 @@ slice-aggregate-number-2 : tie.Need-slice-aggregate-number-2
 slice-aggregate-number-2 c = search needs
 
 -- there is room
-room : (c : tie.Else1) → let a = c .before .before .before .before .before .before .before .args in let s = sheetOf (a .sheet) in
+room : (c : tie.Else1) → let a = entry (filled c) .args in let s = sheetOf (a .sheet) in
     roomFor s (chosen (s .architecture) (a .tables .now)) (a .annotation .now) ≡ proper record { sheet = s; choice = chosen (s .architecture) (a .tables .now) }
-unfolding roomFor annotationShort
-room c = go _ _ (le-ltb _ _ (rw (size-is (c .before .before)) at (c .if1 .left)))
+room c = long-enough _ _ _ _ (size-is (filled c)) (c .if1 .left)
 
 number-requires : tie.Need-number-requires
 number-requires c κs =
-    let p = c .before .before .before .before .before .before .before .before .before .before .before .before .pre in
-    let r = c .before .before .before .before .before .before .before .fill in
+    let f = filled (roomy c) in
+    let p = entry f .pre in
+    let r = f .fill in
     (tables-sized _ _ (p .0 .proper) (p .1) (r .result) (r .last .0) (r .last .1 .0) (r .ensures), record { d-long = refl; s-long = refl; f-long = refl })
 
 enum-told : tie.Need-enum-told
@@ -71,18 +101,21 @@ slice-aggregate-copy : tie.Need-slice-aggregate-copy
 slice-aggregate-copy c = search needs
 
 copy-requires : tie.Need-copy-requires
-copy-requires c κs = (c .before .before .before .before .before .before .before .before .before .before .if1 .left, omega (arith, c .before .before .before .before .number .ensures .1 .d-long, size-is (c .before .before .before .before .before .before .before .before .before .before .before .before), vertices-few _ (c .before .before .before .before .before .before .before .before .before .before .before .before .before .before .before .before .before .pre .0 .proper)))
+copy-requires c κs =
+    let n = numbered c in
+    let e = roomy (n .before) in
+    let f = filled e in
+    (e .if1 .left, omega (arith, n .number .ensures .1 .d-long, size-is f, vertices-few _ (entry f .pre .0 .proper)))
 
 returns-2 : tie.Need-returns-2
 unfolding annotated annotatedBy
 returns-2 c =
-    let a = c .before .before .before .before .before .before .before .before .before .before .before .before .before .before .before .args in
-    let p = c .before .before .before .before .before .before .before .before .before .before .before .before .before .before .before .pre in
-    let s = sheetOf (a .sheet) in
-    let r = c .before .before .before .before .before .before .before .before .before .before .fill in
-    let loop = subst (λ (x : Answer). Says (r .result) (r .last .0) (r .last .1 .0) (c .before .before .number .last .0) x) (c .enum-told .given .1) (c .before .before .number .ensures .0) in
-    let e : loops s (chosen (s .architecture) (a .tables .now)) ≡ true = loops-exactly s _ (p .0 .proper) (p .1) .1 (tables-loop _ _ (p .0 .proper) (p .1) (r .result) (r .last .0) (r .last .1 .0) (r .ensures) .0 loop) in
-    rw (room (c .before .before .before .before .before .before .before .before), e) (refl, refl)
+    let n = c .before .before in
+    let f = filled (roomy (n .before)) in
+    let b = entry f in
+    let s = sheetOf (b .args .sheet) in
+    let e : loops s (chosen (s .architecture) (b .args .tables .now)) ≡ true = loops-exactly s _ (b .pre .0 .proper) (b .pre .1) .1 (loop-is f .0 (said n _ (c .enum-told .given .1))) in
+    rw (room (roomy (n .before)), e) (refl, refl)
 
 same-length : tie.Need-same-length
 same-length c = search needs
@@ -90,15 +123,17 @@ same-length c = search needs
 returns-3 : tie.Need-returns-3
 unfolding annotated annotatedBy
 returns-3 c =
-    let a = c .before .before .before .before .before .before .before .before .before .before .before .before .before .before .before .before .before .before .before .before .args in
-    let p = c .before .before .before .before .before .before .before .before .before .before .before .before .before .before .before .before .before .before .before .before .pre in
-    let s = sheetOf (a .sheet) in
-    let r = c .before .before .before .before .before .before .before .before .before .before .before .before .before .before .before .fill in
-    let keeps = subst (λ (x : Answer). Says (r .result) (r .last .0) (r .last .1 .0) (c .before .before .before .before .before .before .before .number .last .0) x) (c .before .before .before .before .before .enum-told2 .given .1) (c .before .before .before .before .before .before .before .number .ensures .0) in
-    let e : loops s (chosen (s .architecture) (a .tables .now)) ≡ false =
-    ⊎-elim (λ t. absurd (keeps .0 (tables-loop _ _ (p .0 .proper) (p .1) (r .result) (r .last .0) (r .last .1 .0) (r .ensures) .1 (loops-exactly s _ (p .0 .proper) (p .1) .0 t)))) (λ t. t) (bool-cases _) in
-    rw (room (c .before .before .before .before .before .before .before .before .before .before .before .before .before), e)
-    (refl, c .before .before .copy .ensures ∙ ap (λ (xs : List ℕ). front xs (a .annotation .now)) (keeps .1 ∙ tables-annotation _ _ (p .0 .proper) (p .1) (r .result) (r .last .0) (r .last .1 .0) (r .ensures)))
+    let copied = c .before .before in
+    let n = numbered (copied .before) in
+    let f = filled (roomy (n .before)) in
+    let b = entry f in
+    let s = sheetOf (b .args .sheet) in
+    let r = f .fill in
+    let keeps = said n _ (copied .before .before .before .enum-told2 .given .1) in
+    let e : loops s (chosen (s .architecture) (b .args .tables .now)) ≡ false =
+    ⊎-elim (λ t. absurd (keeps .0 (loop-is f .1 (loops-exactly s _ (b .pre .0 .proper) (b .pre .1) .0 t)))) (λ t. t) (bool-cases _) in
+    let numbers = keeps .1 ∙ tables-annotation _ _ (b .pre .0 .proper) (b .pre .1) (r .result) (r .last .0) (r .last .1 .0) (r .ensures) in
+    rw (room (roomy (n .before)), e) (refl, copied .copy .ensures ∙ ap (λ (xs : List ℕ). front xs (b .args .annotation .now)) numbers)
 
 pub annotate-tables-spec : {M : Type 1} → statement M
 annotate-tables-spec =

@@ -27,12 +27,16 @@ shared-slice-read-annotation c = omega arith
 mul-annotation-2 : tie.Need-mul-annotation-2 Inv-loop μ-loop
 mul-annotation-2 c = omega arith
 
+-- the loop's head; the function is entered right before it
+abbrev head : tie.After-shared-slice-known Inv-loop μ-loop → tie.At-loop Inv-loop μ-loop
+head c = c .before .before
+
 -- the buffer keeps its length
 long : (c : tie.At-loop Inv-loop μ-loop) → length (c .loop .annotation) ≡ length (c .before .args .annotation .now)
 long c = append-length (c .loop .inv .1) (omega (arith, c .loop .inv .0, c .before .pre .0))
 
 slice-write-annotation : tie.Need-slice-write-annotation Inv-loop μ-loop
-slice-write-annotation c = omega (arith, long (c .before .before), c .before .loop-test .taken, c .before .before .before .pre .0)
+slice-write-annotation c = omega (arith, long (head c), c .before .loop-test .taken, head c .before .pre .0)
 
 add-k : tie.Need-add-k Inv-loop μ-loop
 add-k c = omega arith
@@ -42,8 +46,8 @@ loop-less c = omega arith
 
 loop-again : tie.Need-loop-again Inv-loop μ-loop
 loop-again c =
-    let b = c .before .before .before in
-    let l = c .before .before .loop in
+    let b = head c .before in
+    let l = head c .loop in
     let h = c .before .loop-test .taken in
     (omega (arith, h), append-copy (b .args .numbers .now) (l .k) (omega (arith, h, b .pre .1)) (l .inv .1) (slice-write-annotation c))
 

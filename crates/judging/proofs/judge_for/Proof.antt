@@ -1,4 +1,4 @@
--- `judging::judge_for` meets its contract: the book is read, and then the annotation judged. Assumes nothing.
+-- `judging::judge_for` meets its contract: a book that is refused says so, and of one that is read the choice is at the front of the tables that are judged.
 use borrow.Author.Needs.{needs}
 use Rattle.model.specs.Reading.{_then_}
 use Rattle.model.specs.Calls.{judged, bookFor}
@@ -21,18 +21,29 @@ enum-told c = search needs
 slice-aggregate-judge-tables : tie.Need-slice-aggregate-judge-tables
 slice-aggregate-judge-tables c = search needs
 
+-- ---- positions: where the book is read, and where the function is entered
+abbrev reading : tie.After-enum-told → tie.After-read-for
+reading c = c .before .before
+
+abbrev entry : tie.After-read-for → tie.Start
+entry r = r .before .before .before .before
+
 -- the choice of the book
-choice : (c : tie.After-enum-told) → let a = c .before .before .before .before .before .before .args in Chose (architectureOf (a .sheet .architecture)) (a .book .now) (c .before .before .read-for .result .tables)
-choice c = was-read _ _ (c .before .before .read-for .result) (c .before .before .read-for .ensures) (c .enum-told .given .1)
+choice : (c : tie.After-enum-told) → let a = entry (reading c) .args in
+    Chose (architectureOf (a .sheet .architecture)) (a .book .now) (reading c .read-for .result .tables)
+choice c = was-read _ _ (reading c .read-for .result) (reading c .read-for .ensures) (c .enum-told .given .1)
 
 judge-tables-requires : tie.Need-judge-tables-requires
-judge-tables-requires c κs = (c .before .before .before .before .before .before .before .before .pre, choice (c .before .before) .is-choice)
+judge-tables-requires c κs =
+    let t = c .before .before in
+    (entry (reading t) .pre, choice t .is-choice)
 
 returns : tie.Need-returns
 unfolding bookFor _then_ judged
 returns c =
-    let a = c .before .before .before .before .before .before .before .args in
-    rw (was-refused (architectureOf (a .sheet .architecture)) (a .book .now) (c .before .before .before .read-for .result) (c .before .before .before .read-for .ensures) (c .before .answer .given .1))
+    let r = c .before .before .before in
+    let a = entry r .args in
+    rw (was-refused (architectureOf (a .sheet .architecture)) (a .book .now) (r .read-for .result) (r .read-for .ensures) (c .before .answer .given .1))
 
 returns-2 : tie.Need-returns-2
 unfolding bookFor _then_
