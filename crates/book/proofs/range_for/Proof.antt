@@ -31,27 +31,27 @@ returns c =
 read-for-requires : tie.Need-read-for-requires
 read-for-requires c κs = search needs
 
--- `Reply::Refused(refusal) => nowhere(refusal),`
+-- `Reply::Refused(refusal) => nowhere(refusal)`
 enum-known-answer : tie.Need-enum-known-answer
 enum-known-answer c = search needs
 
--- `Reply::Refused(refusal) => nowhere(refusal),`
+-- `Reply::Refused(refusal) => nowhere(refusal)`
 nowhere-requires-2 : tie.Need-nowhere-requires-2
 nowhere-requires-2 c κs = search needs
 
--- `answer: Reply::Done,`
+-- `answer: Reply::Done`
 enum-told : tie.Need-enum-told
 enum-told c = search needs
 
--- `start: part_start(a, i),`
+-- `start: part_start(a, i)`
 part-start-requires : tie.Need-part-start-requires
 part-start-requires c κs = search needs
 
--- `end: part_start(a, i + 1),`
+-- `end: part_start(a, i + 1)`
 add-part-start : tie.Need-add-part-start
 add-part-start c = search needs
 
--- `end: part_start(a, i + 1),`
+-- `end: part_start(a, i + 1)`
 part-start-requires-2 : tie.Need-part-start-requires-2
 part-start-requires-2 c κs = search needs
 

@@ -9,36 +9,47 @@ use Rattle.find.proofs.FoundBuffers.{says-refused, says-nothing, left-t
 use Rattle.find.proofs.answer_text.Statement.{statement}
 use Rattle.find.proofs.answer_text.Tie as tie
 
+-- `let outcome = planner::find(sheet, &mut book, &mut annotation)`
 slice-aggregate-find : tie.Need-slice-aggregate-find
 slice-aggregate-find c = search needs
 
+-- `let outcome = planner::find(sheet, &mut book, &mut annotation)`
 slice-aggregate-find-2 : tie.Need-slice-aggregate-find-2
 slice-aggregate-find-2 c = search needs
 
+-- `let outcome = planner::find(sheet, &mut book, &mut annotation)`
 find-requires : tie.Need-find-requires
 find-requires c κs = search needs
 
+-- `Outcome::Refused(refusal) => text::refused_text(text, refusal)`
 enum-known-outcome : tie.Need-enum-known-outcome
 enum-known-outcome c = search needs
 
+-- `Outcome::Refused(refusal) => text::refused_text(text, refusal)`
 refused-text-requires : tie.Need-refused-text-requires
 refused-text-requires c κs = search needs
 
+-- `Outcome::Nothing => text::none_text(text)`
 enum-told : tie.Need-enum-told
 enum-told c = search needs
 
+-- `Outcome::Nothing => text::none_text(text)`
 none-text-requires : tie.Need-none-text-requires
 none-text-requires c κs = search needs
 
+-- `Outcome::Tables => found_text(text, sheet, &book, &annotation)`
 enum-told-2 : tie.Need-enum-told-2
 enum-told-2 c = search needs
 
+-- `Outcome::Tables => found_text(text, sheet, &book, &annotation)`
 slice-aggregate-found-text : tie.Need-slice-aggregate-found-text
 slice-aggregate-found-text c = search needs
 
+-- `Outcome::Tables => found_text(text, sheet, &book, &annotation)`
 slice-aggregate-found-text-2 : tie.Need-slice-aggregate-found-text-2
 slice-aggregate-found-text-2 c = search needs
 
+-- `Outcome::Tables => found_text(text, sheet, &book, &annotation)`
 found-text-requires : tie.Need-found-text-requires
 found-text-requires c κs =
     let f = c .before .before .before .before .before .before .before .find in
@@ -48,6 +59,7 @@ found-text-requires c κs =
 rooms : (338 ≤ length book₀) × (4096 ≤ length annotation₀)
 rooms = (omega (arith, length-replicate {A = ℕ} 338 0), omega (arith, length-replicate {A = ℕ} 4096 0))
 
+-- `match outcome`
 returns : tie.Need-returns
 returns c =
     let f = c .before .before .before .before .before .before .before .find in
@@ -55,10 +67,12 @@ returns c =
     rw (says-refused (c .before .before .before .before .before .before .before .before .before .before .before .args .sheet .now) book₀ annotation₀
     (rooms .0) (rooms .1) (o .0 .0) (sym (f .ensures .0) ∙ o .1)) (c .refused-text .ensures)
 
+-- `match outcome`
 returns-2 : tie.Need-returns-2
 returns-2 c = rw (says-nothing (c .before .before .before .before .before .before .before .before .before .before .args .sheet .now) book₀ annotation₀
     (rooms .0) (rooms .1) (sym (c .before .before .before .before .before .before .find .ensures .0) ∙ c .before .before .enum-told .given .1)) (c .none-text .ensures)
 
+-- `match outcome`
 returns-3 : tie.Need-returns-3
 returns-3 c = search needs
 

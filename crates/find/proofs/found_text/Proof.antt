@@ -7,6 +7,7 @@ use Rattle.find.proofs.FoundBuffers.{Proper, found-proper}
 use Rattle.find.proofs.found_text.Statement.{statement}
 use Rattle.find.proofs.found_text.Tie as tie
 
+-- `let reading = sheet::read(sheet)`
 read-requires : tie.Need-read-requires
 read-requires c κs = search needs
 
@@ -14,11 +15,13 @@ read-requires c κs = search needs
 sheet : (c : tie.After-read) → let a = c .before .before .before .before .args in Proper (a .sheet .now) (sheetOf (c .read .result .sheet)) book₀ annotation₀ (a .book .now) (a .annotation .now)
 sheet c = let a = c .before .before .before .before .args in found-proper (a .sheet .now) _ _ _ _ (c .read .result) (c .read .ensures .0) (c .before .before .before .before .pre)
 
+-- `choice_text(text, read, book, annotation)`
 choice-text-requires : tie.Need-choice-text-requires
 choice-text-requires c κs =
     let s = sheet (c .before .before) in
     (record { arrays = c .before .before .read .ensures .1; proper = sheet-proper _ _ (s .is) }, s .finds)
 
+-- `choice_text(text, read, book, annotation)`
 returns : tie.Need-returns
 unfolding printed sheetText
 returns c = rw (sheet (c .before .before .before) .is) (c .choice-text .ensures)

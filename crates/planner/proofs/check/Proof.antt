@@ -6,9 +6,11 @@ use Rattle.sheet.proofs.AnswersOfReading.{answer-is}
 use Rattle.planner.proofs.check.Statement.{statement}
 use Rattle.planner.proofs.check.Tie as tie
 
+-- `let reading = sheet::read(sheet)`
 read-requires : tie.Need-read-requires
 read-requires c κs = search needs
 
+-- `reading.answer`
 returns : tie.Need-returns
 unfolding checkOf
 returns c = let r = c .read .result in sym (answer-is (r .answer) (r .sheet)) ∙ ap reply (c .read .ensures .0)

@@ -7,21 +7,26 @@ use Rattle.planner.proofs.ReadSheet.{refusal-is, sheet-is, proper-is}
 use Rattle.planner.proofs.find.Statement.{statement}
 use Rattle.planner.proofs.find.Tie as tie
 
+-- `let reading = sheet::read(sheet)`
 read-requires : tie.Need-read-requires
 read-requires c κs = search needs
 
+-- `Reply::Refused(refusal) => Outcome::Refused(refusal)`
 enum-known-answer : tie.Need-enum-known-answer
 enum-known-answer c = search needs
 
+-- `let read = reading.sheet`
 enum-told : tie.Need-enum-told
 enum-told c = search needs
 
+-- `synthesis::find_for(read, book, annotation)`
 find-for-requires : tie.Need-find-for-requires
 find-for-requires c κs =
     let a = c .before .before .before .before .before .before .before .before .before .args in
     let r = c .before .before .before .before .before .read in
     proper-is (a .sheet .now) (r .result) (r .ensures .0) (c .before .before .before .enum-told .given .1) (r .ensures .1)
 
+-- `match answer`
 returns : tie.Need-returns
 unfolding findOf findSheet _then_ findIn
 returns c =
@@ -30,12 +35,15 @@ returns c =
     let e = refusal-is (a .sheet .now) (r .result) (r .ensures .0) (c .before .answer .given .0 .0) (c .before .answer .given .1) in
     rw e (refl, (refl, refl))
 
+-- `match answer`
 same-length : tie.Need-same-length
 same-length c = search needs
 
+-- `match answer`
 same-length-2 : tie.Need-same-length-2
 same-length-2 c = search needs
 
+-- `match answer`
 returns-2 : tie.Need-returns-2
 unfolding findOf findSheet _then_
 returns-2 c =

@@ -43,15 +43,15 @@ put-tables-requires c κs =
     let b = entry l in
     (b .pre .0, (b .pre .1 .0, omega (arith, simp length-append at (b .pre .1 .1), first l .ends, l .put-line .kept .0)))
 
--- `b"greatest ",`
+-- `b"greatest "`
 slice-aggregate-put-line-2 : tie.Need-slice-aggregate-put-line-2
 slice-aggregate-put-line-2 c = search needs
 
--- `greatest(annotation) as usize,`
+-- `greatest(annotation) as usize`
 greatest-requires : tie.Need-greatest-requires
 greatest-requires c κs = search needs
 
--- `greatest(annotation) as usize,`
+-- `greatest(annotation) as usize`
 cast-put-line : tie.Need-cast-put-line
 cast-put-line c = search needs
 

@@ -45,35 +45,35 @@ returns : tie.Need-returns
 unfolding edgeFrom
 returns c = let s = c .before .before .before in reads-as (c .refuse .ensures) (sym (stop _ _ (too-few (bytes s) (at s) 6 (c .before .if1 .taken))))
 
--- `from: sheet[at + 2],`
+-- `from: sheet[at + 2]`
 add-t7 : tie.Need-add-t7
 add-t7 c = search needs
 
--- `from: sheet[at + 2],`
+-- `from: sheet[at + 2]`
 shared-slice-read-t12 : tie.Need-shared-slice-read-t12
 shared-slice-read-t12 c = search needs
 
--- `to: sheet[at + 3],`
+-- `to: sheet[at + 3]`
 add-t8 : tie.Need-add-t8
 add-t8 c = search needs
 
--- `to: sheet[at + 3],`
+-- `to: sheet[at + 3]`
 shared-slice-read-t14 : tie.Need-shared-slice-read-t14
 shared-slice-read-t14 c = search needs
 
--- `on: sheet[at + 4],`
+-- `on: sheet[at + 4]`
 add-t15 : tie.Need-add-t15
 add-t15 c = search needs
 
--- `on: sheet[at + 4],`
+-- `on: sheet[at + 4]`
 shared-slice-read-t17 : tie.Need-shared-slice-read-t17
 shared-slice-read-t17 c = search needs
 
--- `off: sheet[at + 5],`
+-- `off: sheet[at + 5]`
 add-t18 : tie.Need-add-t18
 add-t18 c = search needs
 
--- `off: sheet[at + 5],`
+-- `off: sheet[at + 5]`
 shared-slice-read-t20 : tie.Need-shared-slice-read-t20
 shared-slice-read-t20 c = search needs
 

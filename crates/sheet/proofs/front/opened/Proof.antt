@@ -18,7 +18,7 @@ ar s = record { variables = s .args .variables; environment = s .args .environme
 opened-requires : tie.Need-opened-requires
 opened-requires c κs = search needs
 
--- `total: power(environment),`
+-- `total: power(environment)`
 power-requires : tie.Need-power-requires
 power-requires c κs = opening-proper (ar (c .before)) refl (c .before .pre) .few-environment
 

@@ -148,19 +148,19 @@ returns-3 c =
     let fault = decides f ∙ ap not (ne-eqb _ _ (c .before .if3 .taken)) in
     (c .refuse3 .ensures .0 ∙ sym (go _ _ (whole w) ∙ stop _ _ fault), c .refuse3 .ensures .1 (bytes s) (known s))
 
--- `architecture: architecture.with_process(inputs, outputs, bound),`
+-- `architecture: architecture.with_process(inputs, outputs, bound)`
 with-process-requires : tie.Need-with-process-requires
 with-process-requires c κs = (known (start c) .arrays, start c .pre .1)
 
--- `end: at + 5,`
+-- `end: at + 5`
 add-t9 : tie.Need-add-t9
 add-t9 c = search needs
 
--- `total: so_far.total * wide(bound),`
+-- `total: so_far.total * wide(bound)`
 wide-requires : tie.Need-wide-requires
 wide-requires c κs = search needs
 
--- `total: so_far.total * wide(bound),`
+-- `total: so_far.total * wide(bound)`
 mul-t22 : tie.Need-mul-t22
 mul-t22 c =
     let d = c .before .before .before .before in
