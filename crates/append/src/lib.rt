@@ -25,3 +25,17 @@ pub fn fill(words: &mut [u16], at: usize, value: u16, count: usize) -> usize
     }
     at + count
 }
+
+// All words of a slice.
+pub fn words(words: &mut [u16], at: usize, copied: &[u16]) -> usize
+    requires { ⌜ at + length (now copied) ≤ length (now words) ⌝ }
+    ensures { λ r. ⌜ Appends (now (words .entry)) at (now (copied .entry)) r (now (words .exit)) ⌝ }
+{
+    let n = copied.len();
+    let mut i: usize = 0;
+    while i < n {
+        words[at + i] = copied[i];
+        i += 1;
+    }
+    at + n
+}

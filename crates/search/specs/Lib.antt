@@ -1,2 +1,2 @@
-pub mod Search
-pub mod Says
+pub mod Choices
+pub mod Answers

@@ -1,16 +1,16 @@
-// The search for the first choice that keeps the sheet: one entry is settled at a time. The work arrays are lent from the top.
+// The search for the first choice that keeps the sheet: one entry is settled at a time. The large work arrays are lent from the top, and what no partial choice changes is one table.
 ghost use mathlib.Core.Path.{_≡_};
 ghost use Prim.Native.Nat.{_<_, _≤_};
 ghost use lib.ListN.{length};
 ghost use Rattle.model.specs.Choice.{entries as entriesOf};
 ghost use Rattle.architecture.specs.Struct.{architectureOf};
-ghost use Rattle.sheet.specs.Struct.{sheetOf, IsProper};
+ghost use Rattle.sheet.specs.Struct.{sheetOf};
 ghost use Rattle.choice.specs.Kinds.{kindOf};
-ghost use Rattle.lookup.specs.Lookup.{Prepared};
-ghost use Rattle.partial.specs.Says.{Work};
-ghost use Rattle.search.specs.Search.{Ready, opens, NextValue, Kinds, Witness, Begun, Least};
-ghost use Rattle.search.specs.Says.{Finds, Leads};
-use partial::Explored;
+ghost use Rattle.exploration.specs.Prepared.{Prepared};
+ghost use Rattle.exploration.specs.Answers.{Work};
+ghost use Rattle.search.specs.Choices.{Ready, opens, NextValue, Witness, Begun, Least};
+ghost use Rattle.search.specs.Answers.{Finds, Leads};
+use exploration::Explored;
 use sheet::Sheet;
 
 pub enum Searched {
@@ -39,35 +39,28 @@ pub fn search(
     unset: &mut [u8; 272],
     left: usize,
     sheet: Sheet,
-    rows: &[u16],
-    indexes: &[u8],
-    met: &[u16],
-    kinds: &[u16; 272],
+    fixed: &[u16],
     numbers: &mut [u16; 4096],
     stack: &mut [u16; 4096],
     waiting: &mut [u8; 4096],
     targets: &mut [u16; 4096],
     steps: &mut [u16; 4096],
 ) -> Searched
-    requires { ⌜ IsProper sheet ⌝ }
-    requires { ⌜ Prepared sheet (now rows) (now indexes) (now met) ⌝ }
-    requires { ⌜ Kinds (architectureOf (sheet .architecture)) (now kinds) ⌝ }
+    requires { ⌜ Prepared sheet (now fixed) ⌝ }
     requires { ⌜ Ready (architectureOf (sheet .architecture)) (now values) (now unset) ⌝ }
     requires { ⌜ opens (now unset) (length (entriesOf (architectureOf (sheet .architecture)))) ≤ left ⌝ }
     requires { ⌜ Work (now numbers) (now stack) (now waiting) (now targets) (now steps) ⌝ }
     ensures { λ r. ⌜ Finds (sheetOf sheet) (now (values .entry)) (now (unset .entry)) (now (values .exit)) (now (unset .exit)) r ⌝ }
     ensures { λ _. ⌜ Work (now (numbers .exit)) (now (stack .exit)) (now (waiting .exit)) (now (targets .exit)) (now (steps .exit)) ⌝ }
 {
-    let explored = partial::explore(
+    let explored = exploration::explore(
         numbers,
         stack,
         waiting,
         targets,
         steps,
         sheet,
-        rows,
-        indexes,
-        met,
+        fixed,
         values,
         unset,
     );
@@ -78,7 +71,7 @@ pub fn search(
             if left == 0 {
                 return Searched::Nothing;
             }
-            let kind = kinds[k];
+            let kind = fixed[6144 + k];
             unset[k] = 0;
             let mut v = next_value(kind, 0);
             while v < 256 {
@@ -88,10 +81,7 @@ pub fn search(
                     unset,
                     left - 1,
                     sheet,
-                    rows,
-                    indexes,
-                    met,
-                    kinds,
+                    fixed,
                     numbers,
                     stack,
                     waiting,
@@ -139,44 +129,36 @@ fn settle(
     witness: &mut [u8; 272],
     i: usize,
     n: usize,
-    values: &mut [u8; 272],
-    unset: &mut [u8; 272],
     sheet: Sheet,
-    rows: &[u16],
-    indexes: &[u8],
-    met: &[u16],
-    kinds: &[u16; 272],
+    fixed: &[u16],
     numbers: &mut [u16; 4096],
     stack: &mut [u16; 4096],
     waiting: &mut [u8; 4096],
     targets: &mut [u16; 4096],
     steps: &mut [u16; 4096],
 )
-    requires { ⌜ IsProper sheet ⌝ }
-    requires { ⌜ Prepared sheet (now rows) (now indexes) (now met) ⌝ }
-    requires { ⌜ Kinds (architectureOf (sheet .architecture)) (now kinds) ⌝ }
+    requires { ⌜ Prepared sheet (now fixed) ⌝ }
     requires { ⌜ (n ≡ length (entriesOf (architectureOf (sheet .architecture)))) × (i < n) ⌝ }
     requires { ⌜ Witness (sheetOf sheet) (now witness) ⌝ }
     requires { ⌜ Work (now numbers) (now stack) (now waiting) (now targets) (now steps) ⌝ }
     ensures { λ _. ⌜ Least (sheetOf sheet) i (now (witness .entry)) (now (witness .exit)) ⌝ }
     ensures { λ _. ⌜ Work (now (numbers .exit)) (now (stack .exit)) (now (waiting .exit)) (now (targets .exit)) (now (steps .exit)) ⌝ }
 {
-    let kind = kinds[i];
+    let kind = fixed[6144 + i];
     let most = wide(witness[i]);
     let mut v = next_value(kind, 0);
     while v < most {
-        begin(values, unset, witness, i, n);
+        let mut values = [0u8; 272];
+        let mut unset = [0u8; 272];
+        begin(&mut values, &mut unset, witness, i, n);
         values[i] = v as u8;
         unset[i] = 0;
         let found = search(
-            values,
-            unset,
+            &mut values,
+            &mut unset,
             n,
             sheet,
-            rows,
-            indexes,
-            met,
-            kinds,
+            fixed,
             numbers,
             stack,
             waiting,
@@ -185,7 +167,7 @@ fn settle(
         );
         match found {
             Searched::Tables => {
-                *witness = *values;
+                *witness = values;
                 return;
             }
             Searched::Nothing => {}
@@ -198,37 +180,29 @@ fn settle(
 pub fn first(
     witness: &mut [u8; 272],
     n: usize,
-    values: &mut [u8; 272],
-    unset: &mut [u8; 272],
     sheet: Sheet,
-    rows: &[u16],
-    indexes: &[u8],
-    met: &[u16],
-    kinds: &[u16; 272],
+    fixed: &[u16],
     numbers: &mut [u16; 4096],
     stack: &mut [u16; 4096],
     waiting: &mut [u8; 4096],
     targets: &mut [u16; 4096],
     steps: &mut [u16; 4096],
 ) -> Searched
-    requires { ⌜ IsProper sheet ⌝ }
-    requires { ⌜ Prepared sheet (now rows) (now indexes) (now met) ⌝ }
-    requires { ⌜ Kinds (architectureOf (sheet .architecture)) (now kinds) ⌝ }
+    requires { ⌜ Prepared sheet (now fixed) ⌝ }
     requires { ⌜ n ≡ length (entriesOf (architectureOf (sheet .architecture))) ⌝ }
     requires { ⌜ length (now witness) ≡ 272 ⌝ }
     requires { ⌜ Work (now numbers) (now stack) (now waiting) (now targets) (now steps) ⌝ }
     ensures { λ r. ⌜ Leads (sheetOf sheet) (now (witness .exit)) r ⌝ }
 {
-    begin(values, unset, witness, 0, n);
+    let mut values = [0u8; 272];
+    let mut unset = [0u8; 272];
+    begin(&mut values, &mut unset, witness, 0, n);
     let found = search(
-        values,
-        unset,
+        &mut values,
+        &mut unset,
         n,
         sheet,
-        rows,
-        indexes,
-        met,
-        kinds,
+        fixed,
         numbers,
         stack,
         waiting,
@@ -239,20 +213,15 @@ pub fn first(
         Searched::Nothing => return Searched::Nothing,
         Searched::Tables => {}
     }
-    *witness = *values;
+    *witness = values;
     let mut i: usize = 0;
     while i < n {
         settle(
             witness,
             i,
             n,
-            values,
-            unset,
             sheet,
-            rows,
-            indexes,
-            met,
-            kinds,
+            fixed,
             numbers,
             stack,
             waiting,

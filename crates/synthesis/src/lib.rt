@@ -8,8 +8,8 @@ ghost use Rattle.model.specs.Book.{bookOf};
 ghost use Rattle.model.specs.Calls.{front, reply, roomToFind, findIn};
 ghost use Rattle.architecture.specs.Struct.{architectureOf};
 ghost use Rattle.sheet.specs.Struct.{sheetOf, IsProper};
-ghost use Rattle.search.specs.Search.{Witness};
-ghost use Rattle.search.specs.Says.{Leads};
+ghost use Rattle.search.specs.Choices.{Witness};
+ghost use Rattle.search.specs.Answers.{Leads};
 use model::Outcome;
 use model::Refusal;
 use model::Reply;
@@ -22,15 +22,8 @@ fn first_tables(witness: &mut [u8; 272], sheet: Sheet) -> Searched
     requires { ⌜ length (now witness) ≡ 272 ⌝ }
     ensures { λ r. ⌜ Leads (sheetOf sheet) (now (witness .exit)) r ⌝ }
 {
-    let a = sheet.architecture;
-    let mut kinds = [0u16; 272];
-    let n = choice::fill_kinds(&mut kinds, a);
-    let mut rows = [0u16; 1024];
-    let mut indexes = [0u8; 1024];
-    let mut met = [0u16; 4096];
-    lookup::prepare(&mut rows, &mut indexes, &mut met, sheet);
-    let mut values = [0u8; 272];
-    let mut unset = [0u8; 272];
+    let mut fixed = [0u16; 6416];
+    let n = exploration::prepare(&mut fixed, sheet);
     let mut numbers = [0u16; 4096];
     let mut stack = [0u16; 4096];
     let mut waiting = [0u8; 4096];
@@ -39,13 +32,8 @@ fn first_tables(witness: &mut [u8; 272], sheet: Sheet) -> Searched
     search::first(
         witness,
         n,
-        &mut values,
-        &mut unset,
         sheet,
-        &rows,
-        &indexes,
-        &met,
-        &kinds,
+        &fixed,
         &mut numbers,
         &mut stack,
         &mut waiting,

@@ -1,4 +1,5 @@
--- `search::search` meets its contract. Its measure is `left`, the count of entries still open. The loop's invariant: with each lower value at k no completion of the partial choice keeps the sheet, and but for k, which is settled, it is that of the entry.
+-- `search::search` meets its contract. Its measure is `left`, the count of entries still open. The loop's invariant: with each lower value at k no completion
+-- of the partial choice keeps the sheet, and but for k, which is settled, it is that of the entry.
 use mathlib.Core.Path.{_≡_, refl, sym, ap, subst, subst₂, subst₃, _∙_}
 use mathlib.Core.Bool.{true}
 use mathlib.Core.List.{List}
@@ -13,35 +14,36 @@ use Rattle.model.specs.Sheet.{Sheet}
 use Rattle.model.specs.Choice.{may, entries}
 use Rattle.sheet.specs.Struct.{sheetOf}
 use Rattle.choice.specs.Kinds.{kindOf}
-use Rattle.partial.specs.Says.{NoneKeeps, ExploredSays, Work}
-use Rattle.search.specs.Search.{Kinds, Ready, opens}
-use Rattle.search.specs.Says.{Finds}
-use Rattle.partial.specs.declared.Explored.{Explored}
+use Rattle.exploration.specs.Prepared.{kindAt, Prepared}
+use Rattle.exploration.specs.Answers.{NoneKeeps, ExploredSays, Work}
+use Rattle.search.specs.Choices.{Ready, opens}
+use Rattle.search.specs.Answers.{Finds}
+use Rattle.exploration.specs.declared.Explored.{Explored}
 use Rattle.search.specs.declared.Searched.{Searched}
-use Rattle.search.proofs.Laws.{Trying, trying-none, trying-more, completed, Opened, below, opens-fewer, values-back, unset-back, set-ready, found-wider, all-tried}
+use Rattle.search.proofs.OneEntry.{Trying, trying-none, trying-more, completed, Opened, below, opens-fewer, values-back, unset-back, set-ready, found-wider, all-tried}
 use Rattle.search.proofs.search.Reads as search′
 use Rattle.search.proofs.search.Kinds as search-kinds
 use Rattle.search.proofs.+search.Lts-search as search-lts
-use Rattle.partial.proofs.explore.Reads as explore-reads
+use Rattle.exploration.proofs.explore.Reads as explore-reads
 use Rattle.search.proofs.next_value.Reads as next-value-reads
 use Rattle.search.proofs.+search.{statement}
 use Rattle.search.proofs.+search.Tie.{close}
 
-abbrev μ-search : Measures 11 search-kinds.ps ℕ
+abbrev μ-search : Measures 8 search-kinds.ps ℕ
 μ-search κs a = a .1 .1 .0
 
-abbrev search-at : ℕ → In 11 search-kinds.ps
-search-at t = and 11 search-kinds.ps (is 11 search-kinds.ps μ-search t) search′.Pre
+abbrev search-at : ℕ → In 8 search-kinds.ps
+search-at t = and 8 search-kinds.ps (is 8 search-kinds.ps μ-search t) search′.Pre
 
-abbrev search-below : ℕ → In 11 search-kinds.ps
-search-below t = and 11 search-kinds.ps (falls 11 search-kinds.ps _<_ μ-search t) search′.Pre
+abbrev search-below : ℕ → In 8 search-kinds.ps
+search-below t = and 8 search-kinds.ps (falls 8 search-kinds.ps _<_ μ-search t) search′.Pre
 
 abbrev search-Inv-loop : search-lts.InvT-loop
-search-Inv-loop values₀ unset₀ left sheet rows indexes met kinds numbers₀ stack₀ waiting₀ targets₀ steps₀ k kind v₀ values unset numbers stack waiting targets steps v =
+search-Inv-loop values₀ unset₀ left sheet fixed numbers₀ stack₀ waiting₀ targets₀ steps₀ k kind v₀ values unset numbers stack waiting targets steps v =
     Trying (kindOf kind) (λ u. NoneKeeps (sheetOf sheet) (set values₀ k u) unset₀) v × (set values k 0 ≡ values₀) × (unset ≡ unset₀) × Work numbers stack waiting targets steps
 
 abbrev search-μ-loop : search-lts.MeasureT-loop
-search-μ-loop values₀ unset₀ left sheet rows indexes met kinds numbers₀ stack₀ waiting₀ targets₀ steps₀ k kind v₀ values unset numbers stack waiting targets steps v =
+search-μ-loop values₀ unset₀ left sheet fixed numbers₀ stack₀ waiting₀ targets₀ steps₀ k kind v₀ values unset numbers stack waiting targets steps v =
     256 - v
 
 abbrev claims : ℕ → search-lts.Claims
@@ -49,7 +51,7 @@ claims t = (explore-reads.Asked, explore-reads.Learnt, next-value-reads.Asked, n
 
 module _ (t : ℕ) where
   -- a need, or a position of the code
-  abbrev Of : (search-lts.Claims → In 11 search-kinds.ps → Out 11 search-kinds.ps search-kinds.r → search-lts.InvT-loop → search-lts.MeasureT-loop → Type 0) → Type 0
+  abbrev Of : (search-lts.Claims → In 8 search-kinds.ps → Out 8 search-kinds.ps search-kinds.r → search-lts.InvT-loop → search-lts.MeasureT-loop → Type 0) → Type 0
   Of N = N (claims t) (search-at t) search′.Post search-Inv-loop search-μ-loop
 
   -- ---- positions
@@ -60,21 +62,21 @@ module _ (t : ℕ) where
     abbrev s : Sheet
     s = sheetOf (b .args .sheet)
 
-    abbrev kinds-are : Kinds (s .architecture) (b .args .kinds .now)
-    kinds-are = b .pre .1 .1 .1 .0
+    abbrev made : Prepared (b .args .sheet) (b .args .fixed .now)
+    made = b .pre .1 .0
 
     abbrev ready : Ready (s .architecture) (b .args .values .now) (b .args .unset .now)
-    ready = b .pre .1 .1 .1 .1 .0
+    ready = b .pre .1 .1 .0
 
     abbrev few : opens (b .args .unset .now) (length (entries (s .architecture))) ≤ b .args .left
-    few = b .pre .1 .1 .1 .1 .1 .0
+    few = b .pre .1 .1 .1 .0
 
   -- explore is back
   abbrev Explore : Type 0
   Explore = Of search-lts.After-explore
 
   abbrev exploring : Explore → Started
-  exploring e = e .before .before .before .before .before .before .before .before .before .before .before .before .before
+  exploring e = e .before .before .before .before .before .before .before .before .before .before .before
 
   said : (e : Explore) (r : Explored) → e .explore .result ≡ r → ExploredSays (s (exploring e)) (exploring e .args .values .now) (exploring e .args .unset .now) r
   said e r is = let b = exploring e in subst (λ (r : Explored). ExploredSays (s b) (b .args .values .now) (b .args .unset .now) r) is (e .explore .ensures .0)
@@ -89,11 +91,11 @@ module _ (t : ℕ) where
   abbrev k : Need → ℕ
   k a = a .explored .given .0 .0
 
-  opened : (a : Need) → Opened (s (started a) .architecture) (started a .args .values .now) (started a .args .unset .now) (started a .args .kinds .now) (k a)
+  opened : (a : Need) → Opened (s (started a) .architecture) (started a .args .values .now) (started a .args .unset .now) (started a .args .fixed .now) (k a)
   opened a =
       let b = started a in
       let says = said (a .before .before) _ (a .explored .given .1) in
-      record { kinds-are = kinds-are b; ready = ready b; inside = says .0; unsettled = says .1 }
+      record { kinds-are = made b .kinds-are; ready = ready b; inside = says .0; unsettled = says .1 }
 
   -- in the loop: with v at k, the partial choice is that of the entry with v at k
   abbrev Looping : Type 0
@@ -123,8 +125,8 @@ module _ (t : ℕ) where
   -- ---- needs
   search-explore-requires : Of search-lts.Need-explore-requires
   search-explore-requires c κs =
-      let b = c .before .before .before .before .before .before .before .before .before .before .before .before in
-      (b .pre .1 .0, (b .pre .1 .1 .0, (ready b .choice, (omega (arith, ready b .unset-long, kinds-are b .few), b .pre .1 .1 .1 .1 .1 .1))))
+      let b = c .before .before .before .before .before .before .before .before .before .before in
+      (made b, (record { choice = ready b .choice; long = omega (arith, ready b .unset-long, made b .kinds-are .few) }, b .pre .1 .1 .1 .1))
 
   search-enum-told : Of search-lts.Need-enum-told
   search-enum-told c = search needs
@@ -140,11 +142,14 @@ module _ (t : ℕ) where
       let a = c .before .before in
       absurd (omega (arith, opens-fewer (opened a), c .if1 .taken, few (started a)))
 
+  search-add-kind : Of search-lts.Need-add-kind
+  search-add-kind c = omega (arith, below (opened (c .before .before)))
+
   search-mul-kind : Of search-lts.Need-mul-kind
   search-mul-kind c = omega (arith, below (opened (c .before .before)))
 
-  search-element-copy-out-kind : Of search-lts.Need-element-copy-out-kind
-  search-element-copy-out-kind c = below (opened (c .before .before))
+  search-shared-slice-read-kind : Of search-lts.Need-shared-slice-read-kind
+  search-shared-slice-read-kind c = let a = c .before .before .before in omega (arith, below (opened a), made (started a) .long)
 
   search-element-write-unset : Of search-lts.Need-element-write-unset
   search-element-write-unset c = below (opened (c .before .before .before))
@@ -172,8 +177,10 @@ module _ (t : ℕ) where
       let a = asking l in
       let b = started a in
       let o = opened a in
-      let m : may (kindOf (getD (b .args .kinds .now) (k a) 0)) (l .loop .v) ≡ true = l .loop .inv .0 .may-be (c .before .before .before .before .before .before .before .loop-test .taken) in
-      (omega arith, (b .pre .1 .0, (b .pre .1 .1 .0, (kinds-are b, (subst₂ (Ready (s b .architecture)) (sym (narrowed l)) (sym (l .loop .inv .2)) (set-ready o (l .loop .v) m), (omega (arith, ap (λ (x : List ℕ). opens x (length (entries (s b .architecture)))) (l .loop .inv .2), opens-fewer o, few b), l .loop .inv .3))))))
+      let m : may (kindAt (b .args .fixed .now) (k a)) (l .loop .v) ≡ true = l .loop .inv .0 .may-be (c .before .before .before .before .before .before .before .loop-test .taken) in
+      let r = subst₂ (Ready (s b .architecture)) (sym (narrowed l)) (sym (l .loop .inv .2)) (set-ready o (l .loop .v) m) in
+      let fewer : opens (l .loop .unset) (length (entries (s b .architecture))) ≤ b .args .left - 1 = omega (arith, ap (λ (x : List ℕ). opens x (length (entries (s b .architecture)))) (l .loop .inv .2), opens-fewer o, few b) in
+      (omega arith, (made b, (r, (fewer, l .loop .inv .3))))
 
   search-enum-told-3 : Of search-lts.Need-enum-told-3
   search-enum-told-3 c = search needs
@@ -236,7 +243,7 @@ module _ (t : ℕ) where
       let l = c .before in
       let a = asking l in (
         record {
-          none-keeps = all-tried (s (started a)) (opened a) (started a .pre .1 .0 .proper) (l .loop .v) (c .loop-test .left) (l .loop .inv .0);
+          none-keeps = all-tried (s (started a)) (opened a) (made (started a) .proper .proper) (l .loop .v) (c .loop-test .left) (l .loop .inv .0);
           same-values = l .loop .inv .1;
           same-unset = rw (l .loop .inv .2) (unset-back (opened a));
         },
@@ -254,8 +261,9 @@ pub +search-spec : {M : Type 1} → statement M
     (search-enum-told-2 t)
     (search-enum-known-explored t)
     (search-returns t)
+    (search-add-kind t)
     (search-mul-kind t)
-    (search-element-copy-out-kind t)
+    (search-shared-slice-read-kind t)
     (search-element-write-unset t)
     (search-next-value-requires t)
     (search-loop-holds t)

@@ -2,8 +2,8 @@
 use mathlib.Core.Path.{_≡_}
 use Prim.Native.Nat.{_-_, _≤_}
 use native.Mathlib.Omega.{arith}
-use Rattle.search.specs.Search.{Begun}
-use Rattle.search.proofs.Laws.{begun-none, begun-more}
+use Rattle.search.specs.Choices.{Begun}
+use Rattle.search.proofs.LeastChoice.{begun-none, begun-more}
 use Rattle.search.proofs.begin.Statement.{statement}
 use Rattle.search.proofs.begin.Tie as tie
 

@@ -5,7 +5,7 @@ use Rattle.model.specs.Reading.{proper}
 use Rattle.model.specs.Calls.{findIn, findChoice, roomToFind}
 use Rattle.sheet.specs.Struct.{sheetOf}
 use Rattle.search.specs.declared.Searched.{Searched}
-use Rattle.search.specs.Says.{Leads}
+use Rattle.search.specs.Answers.{Leads}
 use Rattle.synthesis.proofs.RoomDecides.{no-room, some-room}
 use Rattle.synthesis.proofs.find_for.Statement.{statement}
 use Rattle.synthesis.proofs.find_for.Tie as tie

@@ -1,3 +1,0 @@
-pub mod Partial
-pub mod Needed
-pub mod Says
