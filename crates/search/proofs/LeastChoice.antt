@@ -97,7 +97,8 @@ module _ {s : Sheet} {fixed : List ℕ} {i : ℕ} {tables : List ℕ} (S : Settl
     pub begun-opened : Opened (s .architecture) values unset fixed i
     begun-opened = record {
       kinds-are = S .kinds-are;
-      ready = begun-ready B (S .good .architecture) (S .kinds-are .few) (λ k h. rw (chosen-at (s .architecture) tables k (omega (arith, S .inside))) at (fits-at (S .witness .choice) (kindOf 0) k (omega (arith, S .inside))));
+      ready = begun-ready B (S .good .architecture) (S .kinds-are .few) (λ k h.
+          rw (chosen-at (s .architecture) tables k (omega (arith, S .inside))) at (fits-at (S .witness .choice) (kindOf 0) k (omega (arith, S .inside))));
       inside = S .inside;
       unsettled = λ e. omega (arith, B .left i (le-refl i) (S .inside) .1);
     }

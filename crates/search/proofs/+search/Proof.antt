@@ -101,11 +101,11 @@ module _ (t : ℕ) where
   abbrev Looping : Type 0
   Looping = Of search-lts.At-loop
 
-  abbrev asking : Looping → Need
-  asking l = l .before .before .before .before .before
+  abbrev needing : Looping → Need
+  needing l = l .before .before .before .before .before
 
-  narrowed : (l : Looping) → set (l .loop .values) (k (asking l)) (l .loop .v) ≡ set (started (asking l) .args .values .now) (k (asking l)) (l .loop .v)
-  narrowed l = sym (set-set (l .loop .values) (k (asking l)) 0 (l .loop .v)) ∙ ap (λ (x : List ℕ). set x (k (asking l)) (l .loop .v)) (l .loop .inv .1)
+  narrowed : (l : Looping) → set (l .loop .values) (k (needing l)) (l .loop .v) ≡ set (started (needing l) .args .values .now) (k (needing l)) (l .loop .v)
+  narrowed l = sym (set-set (l .loop .values) (k (needing l)) 0 (l .loop .v)) ∙ ap (λ (x : List ℕ). set x (k (needing l)) (l .loop .v)) (l .loop .inv .1)
 
   -- the inner call is back
   abbrev Back : Type 0
@@ -116,11 +116,11 @@ module _ (t : ℕ) where
 
   told : (f : Back) (r : Searched) → f .search .result ≡ r →
       let l = looping f in
-      let a = asking l in
+      let a = needing l in
       Finds (s (started a)) (set (started a .args .values .now) (k a) (l .loop .v)) (set (started a .args .unset .now) (k a) 0) (f .search .last .0) (f .search .last .1 .0) r
   told f r e =
       let l = looping f in
-      subst₃ (λ (x y : List ℕ) (r : Searched). Finds (s (started (asking l))) x y (f .search .last .0) (f .search .last .1 .0) r) (narrowed l) (l .loop .inv .2) e (f .search .ensures .0)
+      subst₃ (λ (x y : List ℕ) (r : Searched). Finds (s (started (needing l))) x y (f .search .last .0) (f .search .last .1 .0) r) (narrowed l) (l .loop .inv .2) e (f .search .ensures .0)
 
   -- ---- needs
   search-explore-requires : Of search-lts.Need-explore-requires
@@ -166,7 +166,7 @@ module _ (t : ℕ) where
   search-cast-values c = omega arith
 
   search-element-write-values : Of search-lts.Need-element-write-values
-  search-element-write-values c = below (opened (c .before .before .before .before .before .before))
+  search-element-write-values c = below (opened (needing (c .before)))
 
   search-sub-search : Of search-lts.Need-sub-search
   search-sub-search c = omega arith
@@ -174,12 +174,13 @@ module _ (t : ℕ) where
   search-search-requires : Of search-lts.Need-search-requires
   search-search-requires c κs =
       let l = c .before .before .before .before .before .before .before .before in
-      let a = asking l in
+      let a = needing l in
       let b = started a in
       let o = opened a in
       let m : may (kindAt (b .args .fixed .now) (k a)) (l .loop .v) ≡ true = l .loop .inv .0 .may-be (c .before .before .before .before .before .before .before .loop-test .taken) in
       let r = subst₂ (Ready (s b .architecture)) (sym (narrowed l)) (sym (l .loop .inv .2)) (set-ready o (l .loop .v) m) in
-      let fewer : opens (l .loop .unset) (length (entries (s b .architecture))) ≤ b .args .left - 1 = omega (arith, ap (λ (x : List ℕ). opens x (length (entries (s b .architecture)))) (l .loop .inv .2), opens-fewer o, few b) in
+      let fewer : opens (l .loop .unset) (length (entries (s b .architecture))) ≤ b .args .left - 1 =
+      omega (arith, ap (λ (x : List ℕ). opens x (length (entries (s b .architecture)))) (l .loop .inv .2), opens-fewer o, few b) in
       (omega arith, (made b, (r, (fewer, l .loop .inv .3))))
 
   search-enum-told-3 : Of search-lts.Need-enum-told-3
@@ -189,7 +190,7 @@ module _ (t : ℕ) where
   search-returns-2 c =
       let f = c .before .before in
       let l = looping f in
-      (found-wider (opened (asking l)) (l .loop .v) (s (started (asking l))) _ (told f _ (c .enum-told3 .given .1)), f .search .ensures .1)
+      (found-wider (opened (needing l)) (l .loop .v) (s (started (needing l))) _ (told f _ (c .enum-told3 .given .1)), f .search .ensures .1)
 
   search-enum-told-4 : Of search-lts.Need-enum-told-4
   search-enum-told-4 c = search needs
@@ -207,7 +208,7 @@ module _ (t : ℕ) where
   search-loop-again c =
       let f = c .before .before .before in
       let l = looping f in
-      let a = asking l in
+      let a = needing l in
       let r = told f _ (c .before .enum-told4 .given .1) in (
         trying-more _ _ _ _ (c .next-value2 .ensures) (l .loop .inv .0) (r .none-keeps),
         ap (λ (x : List ℕ). set x (k a) 0) (r .same-values) ∙ set-set (started a .args .values .now) (k a) (l .loop .v) 0 ∙ values-back (opened a),
@@ -216,10 +217,10 @@ module _ (t : ℕ) where
       )
 
   search-element-write-values-2 : Of search-lts.Need-element-write-values-2
-  search-element-write-values-2 c = below (opened (c .before .before .before .before .before .before))
+  search-element-write-values-2 c = below (opened (needing (c .before)))
 
   search-element-write-unset-2 : Of search-lts.Need-element-write-unset-2
-  search-element-write-unset-2 c = below (opened (c .before .before .before .before .before .before))
+  search-element-write-unset-2 c = below (opened (needing (c .before)))
 
   search-returns-3 : Of search-lts.Need-returns-3
   search-returns-3 c =
@@ -241,7 +242,7 @@ module _ (t : ℕ) where
   search-returns-5 : Of search-lts.Need-returns-5
   search-returns-5 c =
       let l = c .before in
-      let a = asking l in (
+      let a = needing l in (
         record {
           none-keeps = all-tried (s (started a)) (opened a) (made (started a) .proper .proper) (l .loop .v) (c .loop-test .left) (l .loop .inv .0);
           same-values = l .loop .inv .1;

@@ -53,19 +53,19 @@ begun g = subst (λ (n : ℕ). Begun n (started g .args .witness .now) 0 (g .beg
 abbrev Back : Type 0
 Back = At tie.After-search
 
-abbrev asking : Back → Begin
-asking f = f .before .before .before .before .before .before .before .before
+abbrev begun-for : Back → Begin
+begun-for f = f .before .before .before .before .before .before .before .before
 
 -- in the loop
 abbrev back : At tie.At-loop → Back
 back l = l .before .before .before
 
 abbrev entered : At tie.At-loop → At tie.Start
-entered l = started (asking (back l))
+entered l = started (begun-for (back l))
 
-told : (f : Back) (r : Searched) → f .search .result ≡ r → Finds (s (started (asking f))) (asking f .begin .last .0) (asking f .begin .last .1 .0) (f .search .last .0) (f .search .last .1 .0) r
+told : (f : Back) (r : Searched) → f .search .result ≡ r → let g = begun-for f in Finds (s (started g)) (g .begin .last .0) (g .begin .last .1 .0) (f .search .last .0) (f .search .last .1 .0) r
 told f r e =
-    let g = asking f in
+    let g = begun-for f in
     subst (λ (r : Searched). Finds (s (started g)) (g .begin .last .0) (g .begin .last .1 .0) (f .search .last .0) (f .search .last .1 .0) r) e (f .search .ensures .0)
 
 -- ---- needs
@@ -87,7 +87,7 @@ enum-told c = search needs
 returns : tie.Need-returns Inv-loop μ-loop
 returns c =
     let f = c .before .before in
-    let g = asking f in
+    let g = begun-for f in
     nothing-first (s (started g)) _ _ _ (made (started g) .proper .proper) (begun g) (told f _ (c .enum-told .given .1) .none-keeps)
 
 enum-told-2 : tie.Need-enum-told-2 Inv-loop μ-loop

@@ -72,18 +72,19 @@ opened g = begun-opened (settling (started g)) (begun g)
 abbrev Back : Type 0
 Back = At tie.After-search
 
-abbrev asking : Back → Begin
-asking f = f .before .before .before .before .before .before .before .before
+abbrev begun-for : Back → Begin
+begun-for f = f .before .before .before .before .before .before .before .before
 
 told : (f : Back) (r : Searched) → f .search .result ≡ r →
-    let g = asking f in
+    let g = begun-for f in
     let v = looping g .loop .v in
     let i = started g .args .i in
     Finds (s (started g)) (set (g .begin .last .0) i v) (set (g .begin .last .1 .0) i 0) (f .search .last .0) (f .search .last .1 .0) r
 told f r e =
-    let g = asking f in
+    let g = begun-for f in
     let i = started g .args .i in
-    subst (λ (r : Searched). Finds (s (started g)) (set (g .begin .last .0) i (looping g .loop .v)) (set (g .begin .last .1 .0) i 0) (f .search .last .0) (f .search .last .1 .0) r) e (f .search .ensures .0)
+    let v = looping g .loop .v in
+    subst (λ (r : Searched). Finds (s (started g)) (set (g .begin .last .0) i v) (set (g .begin .last .1 .0) i 0) (f .search .last .0) (f .search .last .1 .0) r) e (f .search .ensures .0)
 
 -- ---- needs
 add-kind : tie.Need-add-kind Inv-loop μ-loop
@@ -137,7 +138,7 @@ enum-told c = search needs
 returns : tie.Need-returns Inv-loop μ-loop
 returns c =
     let f = c .before .before in
-    let g = asking f in
+    let g = begun-for f in
     let l = looping g in
     (begun-found (settling (started g)) (begun g) (l .loop .v) _ (told f _ (c .enum-told .given .1)) (l .loop .inv .0), f .search .ensures .1)
 
@@ -156,7 +157,7 @@ loop-less c = omega arith
 loop-again : tie.Need-loop-again Inv-loop μ-loop
 loop-again c =
     let f = c .before .before .before in
-    let g = asking f in
+    let g = begun-for f in
     let l = looping g in
     let r = told f _ (c .before .enum-told2 .given .1) in
     (trying-more _ _ _ _ (c .next-value2 .ensures) (l .loop .inv .0) (begun-lost (settling (started g)) (begun g) (l .loop .v) (r .none-keeps)), l .loop .inv .1, f .search .ensures .1)
@@ -165,7 +166,8 @@ returns-2 : tie.Need-returns-2 Inv-loop μ-loop
 returns-2 c =
     let l = c .before in
     let b = l .before .before .before .before .before .before in
-    (subst⁻¹ (Least (s b) (b .args .i) (b .args .witness .now)) (l .loop .inv .1) (least-same (settling b) (l .loop .v) (omega (arith, c .before .before .before .wide .ensures .0, c .loop-test .left)) (l .loop .inv .0)), l .loop .inv .2)
+    let least = least-same (settling b) (l .loop .v) (omega (arith, l .before .before .wide .ensures .0, c .loop-test .left)) (l .loop .inv .0) in
+    (subst⁻¹ (Least (s b) (b .args .i) (b .args .witness .now)) (l .loop .inv .1) least, l .loop .inv .2)
 
 pub settle-spec : {M : Type 1} → statement M
 settle-spec =
