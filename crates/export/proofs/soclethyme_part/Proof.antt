@@ -24,16 +24,19 @@ number-requires c κs = search needs
 enum-told : tie.Need-enum-told
 enum-told c = search needs
 
--- where the planner has given the range, once it is told that it did
+-- ---- positions: where the function is entered, and where the planner has given the range
+abbrev entry : tie.After-range → tie.Start
+entry r = r .before .before .before
+
 abbrev given : tie.After-struct-known → tie.After-range
 given c = c .before .before .before
 
 -- where the part is
-inside : (c : tie.After-range) → Within (afterPart (c .range .result)) (c .before .before .before .args .book .now)
-inside c = let a = c .before .before .before .args in rw (c .range .ensures) (part-within (a .sheet .now) (a .book .now) (a .process))
+inside : (r : tie.After-range) → Within (afterPart (r .range .result)) (entry r .args .book .now)
+inside r = let a = entry r .args in rw (r .range .ensures) (part-within (a .sheet .now) (a .book .now) (a .process))
 
 -- the answer is that of `partOf`
-answered : (r : tie.After-range) (x : Reply) → r .range .result .answer ≡ x → let a = r .before .before .before .args in partOf (a .sheet .now) (a .book .now) (a .process) .answer ≡ x
+answered : (r : tie.After-range) (x : Reply) → r .range .result .answer ≡ x → let a = entry r .args in partOf (a .sheet .now) (a .book .now) (a .process) .answer ≡ x
 answered r x e = sym (ap (λ (y : AfterPart). y .answer) (r .range .ensures)) ∙ e
 
 cast-result : tie.Need-cast-result

@@ -1,6 +1,7 @@
 -- `judging::annotate_for` meets its contract: a book that is refused says so, and of one that is read the choice is at the front of the tables that are annotated.
-use mathlib.Core.Path.{refl}
+use mathlib.Core.Path.{_≡_, refl}
 use borrow.Author.Needs.{needs}
+use Rattle.model.specs.declared.Reply.{Reply}
 use Rattle.model.specs.Reading.{_then_}
 use Rattle.model.specs.Calls.{annotated, bookFor}
 use Rattle.sheet.specs.Struct.{sheetOf}
@@ -22,22 +23,20 @@ enum-told c = search needs
 slice-aggregate-annotate-tables : tie.Need-slice-aggregate-annotate-tables
 slice-aggregate-annotate-tables c = search needs
 
--- ---- positions: where the book is read, and where the function is entered
-abbrev reading : tie.After-enum-told → tie.After-read-for
-reading c = c .before .before
-
+-- where the function is entered
 abbrev entry : tie.After-read-for → tie.Start
 entry r = r .before .before .before .before
 
 -- the choice of the book
-choice : (c : tie.After-enum-told) → let a = entry (reading c) .args in
-    Chose (architectureOf (a .sheet .architecture)) (a .book .now) (reading c .read-for .result .tables)
-choice c = was-read _ _ (reading c .read-for .result) (reading c .read-for .ensures) (c .enum-told .given .1)
+choice : (r : tie.After-read-for) → r .read-for .result .answer ≡ Reply.Done → let a = entry r .args in
+    Chose (architectureOf (a .sheet .architecture)) (a .book .now) (r .read-for .result .tables)
+choice r e = was-read _ _ (r .read-for .result) (r .read-for .ensures) e
 
 annotate-tables-requires : tie.Need-annotate-tables-requires
 annotate-tables-requires c κs =
     let t = c .before .before .before in
-    (entry (reading t) .pre, choice t .is-choice)
+    let r = t .before .before in
+    (entry r .pre, choice r (t .enum-told .given .1) .is-choice)
 
 returns : tie.Need-returns
 unfolding bookFor _then_ annotated
@@ -52,8 +51,9 @@ same-length c = search needs
 returns-2 : tie.Need-returns-2
 unfolding bookFor _then_
 returns-2 c =
-    let t = c .before .before in
-    rw (choice (t .before .before .before .before) .is-read) (t .annotate-tables .ensures .0, t .annotate-tables .ensures .1)
+    let done = c .before .before in
+    let t = done .before .before .before .before in
+    rw (choice (t .before .before) (t .enum-told .given .1) .is-read) (done .annotate-tables .ensures .0, done .annotate-tables .ensures .1)
 
 pub annotate-for-spec : {M : Type 1} → statement M
 annotate-for-spec =

@@ -1,5 +1,7 @@
 -- `judging::judge_for` meets its contract: a book that is refused says so, and of one that is read the choice is at the front of the tables that are judged.
+use mathlib.Core.Path.{_≡_}
 use borrow.Author.Needs.{needs}
+use Rattle.model.specs.declared.Reply.{Reply}
 use Rattle.model.specs.Reading.{_then_}
 use Rattle.model.specs.Calls.{judged, bookFor}
 use Rattle.sheet.specs.Struct.{sheetOf}
@@ -21,22 +23,20 @@ enum-told c = search needs
 slice-aggregate-judge-tables : tie.Need-slice-aggregate-judge-tables
 slice-aggregate-judge-tables c = search needs
 
--- ---- positions: where the book is read, and where the function is entered
-abbrev reading : tie.After-enum-told → tie.After-read-for
-reading c = c .before .before
-
+-- where the function is entered
 abbrev entry : tie.After-read-for → tie.Start
 entry r = r .before .before .before .before
 
 -- the choice of the book
-choice : (c : tie.After-enum-told) → let a = entry (reading c) .args in
-    Chose (architectureOf (a .sheet .architecture)) (a .book .now) (reading c .read-for .result .tables)
-choice c = was-read _ _ (reading c .read-for .result) (reading c .read-for .ensures) (c .enum-told .given .1)
+choice : (r : tie.After-read-for) → r .read-for .result .answer ≡ Reply.Done → let a = entry r .args in
+    Chose (architectureOf (a .sheet .architecture)) (a .book .now) (r .read-for .result .tables)
+choice r e = was-read _ _ (r .read-for .result) (r .read-for .ensures) e
 
 judge-tables-requires : tie.Need-judge-tables-requires
 judge-tables-requires c κs =
     let t = c .before .before in
-    (entry (reading t) .pre, choice t .is-choice)
+    let r = t .before .before in
+    (entry r .pre, choice r (t .enum-told .given .1) .is-choice)
 
 returns : tie.Need-returns
 unfolding bookFor _then_ judged
@@ -47,7 +47,9 @@ returns c =
 
 returns-2 : tie.Need-returns-2
 unfolding bookFor _then_
-returns-2 c = rw (choice (c .before .before .before) .is-read) (c .judge-tables .ensures)
+returns-2 c =
+    let t = c .before .before .before in
+    rw (choice (t .before .before) (t .enum-told .given .1) .is-read) (c .judge-tables .ensures)
 
 pub judge-for-spec : {M : Type 1} → statement M
 judge-for-spec =
