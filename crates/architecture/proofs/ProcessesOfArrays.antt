@@ -26,15 +26,18 @@ rows-length [] = refl
 rows-length (p ∷ ps) =
     length-append (times (p .bound) (row p)) (rows ps) ∙ ap₂ (λ (m n : ℕ). m + n) (times-length (p .bound) (row p) ∙ ap (λ (n : ℕ). p .bound * n) (row-length p)) (rows-length ps)
 
+-- one process more
 pub entries-snoc : (ps : List Process) (p : Process) → entriesOf (ps ++ (p ∷ [])) ≡ entriesOf ps + processLength p
 unfolding entriesOf
 entries-snoc [] p = omega arith
 entries-snoc (q ∷ ps) p = omega (arith, entries-snoc ps p)
 
+-- an output mask, and a next state for each of at most 16 combinations
 pub row-few : (p : Process) → count (p .inputs) ≤ 4 → rowLength p ≤ 17
 unfolding rowLength
 row-few p h = omega (arith, pow-mono {i = count (p .inputs)} {j = 4} h)
 
+-- at most 4 rows
 pub length-few : (p : Process) → count (p .inputs) ≤ 4 → p .bound ≤ 4 → processLength p ≤ 68
 unfolding processLength
 length-few p hi hb = mul-le-mul hb (row-few p hi)
@@ -48,6 +51,7 @@ pub row-pos : (p : Process) → 0 < rowLength p
 unfolding rowLength
 row-pos p = omega arith
 
+-- before the last, or the last
 pub last? : (j n : ℕ) → j < suc n → (j < n) ⊎ (j ≡ n)
 last? j zero h = inr (omega arith)
 last? zero (suc n) h = inl (omega arith)
@@ -63,6 +67,7 @@ module _ (i o b : List ℕ) where
   noProcess : Process
   noProcess = record { inputs = 0; outputs = 0; bound = 0 }
 
+  -- process j of the list is that of entry j
   pub processes-at : (n j : ℕ) (d : Process) → j < n → getD (processesOf n i o b) j d ≡ processOf i o b j
   unfolding processesOf
   processes-at zero j d h = absurd (not-suc-le-zero h)
@@ -108,18 +113,22 @@ module _ (i o b : List ℕ) (n j : ℕ) (h : j < n) where
 
 -- ---- what the code reads of process j
 module _ (i o b : List ℕ) (j : ℕ) where
+  -- the row's length, from the input mask
   pub row-is : (inp row : ℕ) → inp ≡ getD i j 0 → row ≡ 1 + 2 ^ count inp → row ≡ rowLength (processOf i o b j)
   unfolding rowLength
   row-is inp row ei er = er ∙ ap (λ (m : ℕ). 1 + 2 ^ count m) ei
 
+  -- its entries, from the bound and the row's length
   pub length-is : (bound row : ℕ) → bound ≡ getD b j 0 → row ≡ rowLength (processOf i o b j) → bound * row ≡ processLength (processOf i o b j)
   unfolding processLength
   length-is bound row eb er = ap₂ (λ (m n : ℕ). m * n) eb er
 
+  -- where the row of its state begins
   pub from-is : (at x y row from : ℕ) → x ≡ y → row ≡ rowLength (processOf i o b j) → from ≡ at + x * row → from ≡ rowAt (processOf i o b j) at y
   unfolding rowAt
   from-is at x y row from ex er ef = ef ∙ ap₂ (λ (m n : ℕ). at + m * n) ex er
 
+  -- where the entries of the next process begin
   pub start-next : entriesOf (processesOf (j + 1) i o b) ≡ entriesOf (processesOf j i o b) + processLength (processOf i o b j)
   unfolding processesOf
   start-next = rw (add-one j) (entries-snoc (processesOf j i o b) (processOf i o b j))
@@ -185,6 +194,7 @@ module _ (a : Architecture) (z : IsProper a) where
         start-few j (omega arith),
       )
 
+-- the entries of a choice are those of all processes
 pub entries-are : (a : Architecture) → length (entries (architectureOf a)) ≡ entriesOf (processesIn a)
 unfolding entries architectureOf
 entries-are a = rows-length (processesIn a)

@@ -21,9 +21,11 @@ pub record Chose (a : Architecture) (book tables : List ℕ) : Type 0 where
   pub is-read : readBook a book ≡ proper (chosen a tables)
 
 module _ (a : Architecture) (book : List ℕ) (r : TablesRead) (after : afterRead r ≡ gave (readBook a book)) where
+  -- the answer is the book's refusal
   pub was-refused : {q : Refusal} → r .answer ≡ Reply.Refused q → readBook a book ≡ refused q
   was-refused {q} h = gave-refused (readBook a book) q (sym (ap (λ (x : AfterRead). x .answer) after) ∙ h)
 
+  -- the tables begin with the choice that the book holds
   pub was-read : r .answer ≡ Reply.Done → Chose a book (r .tables)
   unfolding gave
   was-read h =

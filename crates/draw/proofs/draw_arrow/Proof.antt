@@ -12,33 +12,43 @@ Inv-loop x y next is-first₀ index₀ is-first index = Unit {0}
 abbrev μ-loop : tie.MeasureT-loop
 μ-loop x y next is-first₀ index₀ is-first index = length next - index
 
+-- `while index < next.len()`
 loop-holds : tie.Need-loop-holds Inv-loop μ-loop
 loop-holds c = search needs
 
+-- `if next[index] as usize == y`
 shared-slice-read-if1 : tie.Need-shared-slice-read-if1 Inv-loop μ-loop
 shared-slice-read-if1 c = search needs
 
+-- `if next[index] as usize == y`
 cast-if1 : tie.Need-cast-if1 Inv-loop μ-loop
 cast-if1 c = omega (arith, c .shared-slice-known2 .given (c .before .before .loop .index))
 
+-- `print_index(is_first, x, y, index)`
 print-index-requires : tie.Need-print-index-requires Inv-loop μ-loop
 print-index-requires c κs = search needs
 
+-- `index += 1`
 add-index : tie.Need-add-index Inv-loop μ-loop
 add-index c = search needs
 
+-- `while index < next.len()`
 loop-less : tie.Need-loop-less Inv-loop μ-loop
 loop-less c = search needs
 
+-- `while index < next.len()`
 loop-again : tie.Need-loop-again Inv-loop μ-loop
 loop-again c = search needs
 
+-- `close_arrow()`
 close-arrow-requires : tie.Need-close-arrow-requires Inv-loop μ-loop
 close-arrow-requires c κs = search needs
 
+-- `if !is_first`
 returns : tie.Need-returns Inv-loop μ-loop
 returns c = search needs
 
+-- `if !is_first`
 returns-2 : tie.Need-returns-2 Inv-loop μ-loop
 returns-2 c = search needs
 

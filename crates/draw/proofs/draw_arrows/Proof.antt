@@ -10,21 +10,27 @@ Inv-loop x bound next y₀ y = Unit {0}
 abbrev μ-loop : tie.MeasureT-loop
 μ-loop x bound next y₀ y = bound - y
 
+-- `while y < bound`
 loop-holds : tie.Need-loop-holds Inv-loop μ-loop
 loop-holds c = search needs
 
+-- `draw_arrow(x, y, next)`
 draw-arrow-requires : tie.Need-draw-arrow-requires Inv-loop μ-loop
 draw-arrow-requires c κs = search needs
 
+-- `y += 1`
 add-y : tie.Need-add-y Inv-loop μ-loop
 add-y c = search needs
 
+-- `while y < bound`
 loop-less : tie.Need-loop-less Inv-loop μ-loop
 loop-less c = search needs
 
+-- `while y < bound`
 loop-again : tie.Need-loop-again Inv-loop μ-loop
 loop-again c = search needs
 
+-- `while y < bound`
 returns : tie.Need-returns Inv-loop μ-loop
 returns c = search needs
 

@@ -28,15 +28,19 @@ Inv-loop a i tables row bound x₀ x = Rows a i tables row bound
 abbrev μ-loop : tie.MeasureT-loop
 μ-loop a i tables row bound x₀ x = bound - x
 
+-- `let row = architecture::row_length(a.inputs_of(i))`
 inputs-of-requires : tie.Need-inputs-of-requires Inv-loop μ-loop
 inputs-of-requires c κs = search needs
 
+-- `let row = architecture::row_length(a.inputs_of(i))`
 row-length-requires : tie.Need-row-length-requires Inv-loop μ-loop
 row-length-requires c κs = search needs
 
+-- `let bound = a.bound_of(i)`
 bound-of-requires : tie.Need-bound-of-requires Inv-loop μ-loop
 bound-of-requires c κs = search needs
 
+-- `while x < bound`
 loop-holds : tie.Need-loop-holds Inv-loop μ-loop
 loop-holds c =
     let s = c .before .before .before .before in
@@ -53,9 +57,11 @@ loop-holds c =
       within = λ x h. omega (arith, e, row-within a i x counts (omega (arith, c .bound-of .ensures)), s .pre .1 .1);
     }
 
+-- `let from = a.row_at(i, ProcessState(x as u8))`
 cast-t11 : tie.Need-cast-t11 Inv-loop μ-loop
 cast-t11 c = omega (arith, c .before .loop .inv .few)
 
+-- `let from = a.row_at(i, ProcessState(x as u8))`
 row-at-requires : tie.Need-row-at-requires Inv-loop μ-loop
 row-at-requires c κs = let r = c .before .loop .inv in (r .sized, (r .counts, omega (arith, r .all)))
 
@@ -64,30 +70,39 @@ inside : (c : tie.After-row-at Inv-loop μ-loop)
     → c .row-at .result + c .before .before .before .before .row-length .result ≤ length (c .before .before .before .before .before .before .before .args .tables .now)
 inside c = omega (arith, c .row-at .ensures, c .before .before .loop .inv .within (c .before .before .loop .x) (c .before .loop-test .taken))
 
+-- `let end = from + row`
 add-end : tie.Need-add-end Inv-loop μ-loop
 add-end c = omega (arith, inside c)
 
+-- `draw_row(x, bound, &tables[from..end])`
 sub-draw-row : tie.Need-sub-draw-row Inv-loop μ-loop
 sub-draw-row c = search needs
 
+-- `draw_row(x, bound, &tables[from..end])`
 part-draw-row-start : tie.Need-part-draw-row-start Inv-loop μ-loop
 part-draw-row-start c = search needs
 
+-- `draw_row(x, bound, &tables[from..end])`
 part-draw-row-end : tie.Need-part-draw-row-end Inv-loop μ-loop
 part-draw-row-end c = inside c
 
+-- `draw_row(x, bound, &tables[from..end])`
 draw-row-requires : tie.Need-draw-row-requires Inv-loop μ-loop
 draw-row-requires c κs = simp (length-take, length-drop) (omega (arith, inside (c .before), c .before .before .before .loop .inv .some))
 
+-- `x += 1`
 add-x : tie.Need-add-x Inv-loop μ-loop
 add-x c = search needs
 
+-- `while x < bound`
 loop-less : tie.Need-loop-less Inv-loop μ-loop
 loop-less c = search needs
 
+-- `while x < bound`
 loop-again : tie.Need-loop-again Inv-loop μ-loop
 loop-again c = c .before .before .before .before .loop .inv
 
+-- `while x < bound`
 returns : tie.Need-returns Inv-loop μ-loop
 returns c = search needs
 

@@ -4,26 +4,33 @@ use Rattle.sheet.proofs.AnswersOfReading.{read-is-proper}
 use Rattle.draw.proofs.draw_sheet.Statement.{statement}
 use Rattle.draw.proofs.draw_sheet.Tie as tie
 
+-- `let reading = sheet::read(sheet)`
 read-requires : tie.Need-read-requires
 read-requires c κs = search needs
 
+-- `Reply::Refused(refusal) => print_refused(refusal)`
 enum-known-answer : tie.Need-enum-known-answer
 enum-known-answer c = search needs
 
+-- `Reply::Refused(refusal) => print_refused(refusal)`
 print-refused-requires : tie.Need-print-refused-requires
 print-refused-requires c κs = search needs
 
+-- `let read = reading.sheet`
 enum-told : tie.Need-enum-told
 enum-told c = search needs
 
+-- `draw_proper(read)`
 draw-proper-requires : tie.Need-draw-proper-requires
 draw-proper-requires c κs =
     let r = c .before .before .before .read in
     read-is-proper _ (r .result) (r .ensures .0) (r .ensures .1) (c .before .enum-told .given .1)
 
+-- `match answer`
 returns : tie.Need-returns
 returns c = search needs
 
+-- `match answer`
 returns-2 : tie.Need-returns-2
 returns-2 c = search needs
 

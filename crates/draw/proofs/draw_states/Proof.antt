@@ -10,24 +10,31 @@ Inv-loop states rejecting left₀ q₀ left q = Unit {0}
 abbrev μ-loop : tie.MeasureT-loop
 μ-loop states rejecting left₀ q₀ left q = states - q
 
+-- `while q < states`
 loop-holds : tie.Need-loop-holds Inv-loop μ-loop
 loop-holds c = search needs
 
+-- `draw_state(q as usize, left % 2 == 1)`
 cast-draw-state : tie.Need-cast-draw-state Inv-loop μ-loop
 cast-draw-state c = search needs
 
+-- `draw_state(q as usize, left % 2 == 1)`
 draw-state-requires : tie.Need-draw-state-requires Inv-loop μ-loop
 draw-state-requires c κs = search needs
 
+-- `q += 1`
 add-q : tie.Need-add-q Inv-loop μ-loop
 add-q c = search needs
 
+-- `while q < states`
 loop-less : tie.Need-loop-less Inv-loop μ-loop
 loop-less c = search needs
 
+-- `while q < states`
 loop-again : tie.Need-loop-again Inv-loop μ-loop
 loop-again c = search needs
 
+-- `while q < states`
 returns : tie.Need-returns Inv-loop μ-loop
 returns c = search needs
 

@@ -10,21 +10,27 @@ Inv-loop mask sign is-first left₀ first₀ i₀ left first i = Unit {0}
 abbrev μ-loop : tie.MeasureT-loop
 μ-loop mask sign is-first left₀ first₀ i₀ left first i = 8 - i
 
+-- `while i < 8`
 loop-holds : tie.Need-loop-holds Inv-loop μ-loop
 loop-holds c = search needs
 
+-- `print_variable(first, sign, i)`
 print-variable-requires : tie.Need-print-variable-requires Inv-loop μ-loop
 print-variable-requires c κs = search needs
 
+-- `i += 1`
 add-i : tie.Need-add-i Inv-loop μ-loop
 add-i c = search needs
 
+-- `while i < 8`
 loop-less : tie.Need-loop-less Inv-loop μ-loop
 loop-less c = search needs
 
+-- `while i < 8`
 loop-again : tie.Need-loop-again Inv-loop μ-loop
 loop-again c = search needs
 
+-- `while i < 8`
 returns : tie.Need-returns Inv-loop μ-loop
 returns c = search needs
 

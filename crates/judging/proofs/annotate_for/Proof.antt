@@ -4,7 +4,6 @@ use borrow.Author.Needs.{needs}
 use Rattle.model.specs.declared.Reply.{Reply}
 use Rattle.model.specs.Reading.{_then_}
 use Rattle.model.specs.Calls.{annotated, bookFor}
-use Rattle.sheet.specs.Struct.{sheetOf}
 use Rattle.architecture.specs.Struct.{architectureOf}
 use Rattle.sheet.proofs.AnswersOfReading.{architecture-proper}
 use Rattle.judging.proofs.BookGivesChoice.{Chose, was-refused, was-read}

@@ -24,12 +24,15 @@ entry f = f .before .before .before .before .before .before
 order : (b : tie.Start) → IsProper (b .args .sheet .architecture)
 order b = architecture-proper (b .args .sheet) (b .pre)
 
+-- `let n = layout::fill_slots(&mut slots, a)`
 slice-aggregate-fill-slots : tie.Need-slice-aggregate-fill-slots
 slice-aggregate-fill-slots c = search needs
 
+-- `let n = layout::fill_slots(&mut slots, a)`
 fill-slots-requires : tie.Need-fill-slots-requires
 fill-slots-requires c κs = (order (c .before .before .before .before .before), omega arith)
 
+-- `return Reply::Refused(Refusal::BookBufferTooShort)`
 returns : tie.Need-returns
 unfolding reply roomToFind bookShort
 returns c =
@@ -38,9 +41,11 @@ returns c =
     stop _ _ (lt-ltb _ _ (rw (c .before .before .fill-slots .ensures .0 .0) at (c .if1 .taken))) in
     rw e
 
+-- `let vertices = automaton.states as usize * a.composed_states()`
 cast-vertices : tie.Need-cast-vertices
 cast-vertices c = search needs
 
+-- `let vertices = automaton.states as usize * a.composed_states()`
 composed-states-requires : tie.Need-composed-states-requires
 composed-states-requires c κs = order (entry (c .before .before .before))
 
@@ -49,6 +54,7 @@ annotation-long : (c : tie.After-composed-states) → let s = entry (c .before .
 unfolding vertices automatonOf
 annotation-long c = ap (λ (n : ℕ). entry (c .before .before .before .before) .args .sheet .automaton .states * n) (c .composed-states .ensures)
 
+-- `let vertices = automaton.states as usize * a.composed_states()`
 mul-vertices : tie.Need-mul-vertices
 mul-vertices c = omega (arith, annotation-long c, vertices-few _ (entry (c .before .before .before .before) .pre .proper))
 
@@ -59,6 +65,7 @@ book-fits : (c : tie.Else1) → let a = entry (c .before .before) .args in
 unfolding roomToFind bookShort
 book-fits c = go _ _ (le-ltb _ _ (rw (c .before .before .fill-slots .ensures .0 .0) at (c .if1 .left)))
 
+-- `return Reply::Refused(Refusal::AnnotationBufferTooShort)`
 returns-2 : tie.Need-returns-2
 unfolding reply annotationShort
 returns-2 c =
@@ -67,6 +74,7 @@ returns-2 c =
     book-fits (c .before .before .before) ∙ stop _ _ (lt-ltb _ _ (rw (annotation-long (c .before)) at (c .if2 .taken))) in
     rw e
 
+-- `Reply::Done`
 returns-3 : tie.Need-returns-3
 unfolding reply annotationShort
 returns-3 c =

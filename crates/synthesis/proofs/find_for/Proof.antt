@@ -10,18 +10,23 @@ use Rattle.synthesis.proofs.RoomDecides.{no-room, some-room}
 use Rattle.synthesis.proofs.find_for.Statement.{statement}
 use Rattle.synthesis.proofs.find_for.Tie as tie
 
+-- `let room = check_room(sheet, book, annotation)`
 check-room-requires : tie.Need-check-room-requires
 check-room-requires c κs = search needs
 
+-- `if let Reply::Refused(refusal) = room`
 enum-known-room : tie.Need-enum-known-room
 enum-known-room c = search needs
 
+-- `return Outcome::Refused(refusal)`
 same-length : tie.Need-same-length
 same-length c = search needs
 
+-- `return Outcome::Refused(refusal)`
 same-length-2 : tie.Need-same-length-2
 same-length-2 c = search needs
 
+-- `return Outcome::Refused(refusal)`
 returns : tie.Need-returns
 unfolding findIn
 returns c =
@@ -37,6 +42,7 @@ room-is : (c : tie.After-enum-told) → let a = c .before .before .before .befor
     roomToFind (sheetOf (a .sheet)) (a .book .now) (a .annotation .now) ≡ proper (sheetOf (a .sheet))
 room-is c = some-room _ _ _ (sym (c .enum-told .given .1) ∙ c .before .before .check-room .ensures)
 
+-- `let found = first_tables(&mut witness, sheet)`
 first-tables-requires : tie.Need-first-tables-requires
 first-tables-requires c κs = search needs
 
@@ -45,12 +51,15 @@ leads : (c : tie.After-first-tables) (r : Searched) → c .first-tables .result 
     → Leads (sheetOf (c .before .before .before .before .before .before .before .before .before .args .sheet)) (c .first-tables .last .0) r
 leads c r e = subst (Leads (sheetOf (c .before .before .before .before .before .before .before .before .before .args .sheet)) (c .first-tables .last .0)) e (c .first-tables .ensures)
 
+-- `Searched::Nothing => Outcome::Nothing`
 enum-told-2 : tie.Need-enum-told-2
 enum-told-2 c = search needs
 
+-- `put_found(sheet, &witness, book, annotation)`
 enum-told-3 : tie.Need-enum-told-3
 enum-told-3 c = search needs
 
+-- `put_found(sheet, &witness, book, annotation)`
 put-found-requires : tie.Need-put-found-requires
 put-found-requires c κs =
     let b = c .before .before .before .before .before .before .before .before .before .before .before .before .before .before in (
@@ -61,22 +70,28 @@ put-found-requires c κs =
       ),
     )
 
+-- `match found`
 same-length-3 : tie.Need-same-length-3
 same-length-3 c = search needs
 
+-- `match found`
 same-length-4 : tie.Need-same-length-4
 same-length-4 c = search needs
 
+-- `match found`
 returns-2 : tie.Need-returns-2
 unfolding findIn findChoice
 returns-2 c = rw (room-is (c .before .before .before .before), leads (c .before .before) Searched.Nothing (c .enum-told2 .given .1)) (refl, (refl, refl))
 
+-- `match found`
 same-length-5 : tie.Need-same-length-5
 same-length-5 c = search needs
 
+-- `match found`
 same-length-6 : tie.Need-same-length-6
 same-length-6 c = search needs
 
+-- `match found`
 returns-3 : tie.Need-returns-3
 unfolding findIn findChoice
 returns-3 c =

@@ -8,18 +8,23 @@ use Rattle.synthesis.proofs.RoomDecides.{book-written, annotation-writt
 use Rattle.synthesis.proofs.put_found.Statement.{statement}
 use Rattle.synthesis.proofs.put_found.Tie as tie
 
+-- `book::write_for(a, witness, book)`
 write-for-requires : tie.Need-write-for-requires
 write-for-requires c κs = architecture-proper _ (c .before .before .before .before .pre .0)
 
+-- `judging::annotate_tables(sheet, witness, annotation)`
 annotate-tables-requires : tie.Need-annotate-tables-requires
 annotate-tables-requires c κs = let p = c .before .before .before .before .before .before .before .before .before .pre in (p .0, p .1 .0 .choice)
 
+-- `judging::annotate_tables(sheet, witness, annotation)`
 same-length : tie.Need-same-length
 same-length c = search needs
 
+-- `judging::annotate_tables(sheet, witness, annotation)`
 same-length-2 : tie.Need-same-length-2
 same-length-2 c = search needs
 
+-- `judging::annotate_tables(sheet, witness, annotation)`
 returns : tie.Need-returns
 unfolding wrote
 returns c =

@@ -5,6 +5,7 @@ use Rattle.automaton.specs.Struct.{automatonOf, edgesOf}
 use Rattle.automaton.proofs.Automaton.opened.Statement.{statement}
 use Rattle.automaton.proofs.Automaton.opened.Tie as tie
 
+-- `Automaton`
 returns : tie.Need-returns
 unfolding automatonOf edgesOf
 returns c = (refl, (record { few-edges = omega arith; from-long = refl; to-long = refl; on-long = refl; off-long = refl }, refl))

@@ -9,21 +9,27 @@ use Rattle.automaton.proofs.Edges.{edges-more}
 use Rattle.automaton.proofs.Automaton.with_edge.Statement.{statement}
 use Rattle.automaton.proofs.Automaton.with_edge.Tie as tie
 
+-- `self.from[n] = edge.from`
 element-write-self : tie.Need-element-write-self
 element-write-self c = search needs
 
+-- `self.to[n] = edge.to`
 element-write-self-2 : tie.Need-element-write-self-2
 element-write-self-2 c = search needs
 
+-- `self.on[n] = edge.on`
 element-write-self-3 : tie.Need-element-write-self-3
 element-write-self-3 c = search needs
 
+-- `self.off[n] = edge.off`
 element-write-self-4 : tie.Need-element-write-self-4
 element-write-self-4 c = search needs
 
+-- `self.edges = n + 1`
 add-self : tie.Need-add-self
 add-self c = search needs
 
+-- `self`
 returns : tie.Need-returns
 unfolding withEdge automatonOf
 returns c =

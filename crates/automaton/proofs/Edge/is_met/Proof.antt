@@ -23,9 +23,11 @@ off-decides : (e : Edge) (l : ℕ) → bitAnd (e .on) l ≡ e .on → meets e l 
 unfolding meets within share
 off-decides e l h = rw (eq-eqb (bitAnd (e .on) l) (e .on) h) (not-twice (eqb (bitAnd (e .off) l) 0))
 
+-- `return false`
 returns : tie.Need-returns
 returns c = sym (lacks _ _ (c .if1 .taken))
 
+-- `self.off & label == 0`
 returns-2 : tie.Need-returns-2
 returns-2 c = sym (off-decides _ _ (c .before .if1 .left))
 

@@ -12,24 +12,31 @@ Inv-loop annotation most₀ k₀ most k = Unit {0}
 abbrev μ-loop : tie.MeasureT-loop
 μ-loop annotation most₀ k₀ most k = length annotation - k
 
+-- `while k < annotation.len()`
 loop-holds : tie.Need-loop-holds Inv-loop μ-loop
 loop-holds c = tt
 
+-- `let n = annotation[k]`
 mul-n : tie.Need-mul-n Inv-loop μ-loop
 mul-n c = omega arith
 
+-- `let n = annotation[k]`
 shared-slice-read-n : tie.Need-shared-slice-read-n Inv-loop μ-loop
 shared-slice-read-n c = omega arith
 
+-- `k += 1`
 add-k : tie.Need-add-k Inv-loop μ-loop
 add-k c = omega arith
 
+-- `while k < annotation.len()`
 loop-less : tie.Need-loop-less Inv-loop μ-loop
 loop-less c = omega arith
 
+-- `while k < annotation.len()`
 loop-again : tie.Need-loop-again Inv-loop μ-loop
 loop-again c = tt
 
+-- `most`
 returns : tie.Need-returns Inv-loop μ-loop
 returns c = search needs
 

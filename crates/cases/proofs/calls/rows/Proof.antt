@@ -13,24 +13,31 @@ Inv-loop book count₀ at₀ t count at = count ≤ at
 abbrev μ-loop : tie.MeasureT-loop
 μ-loop book count₀ at₀ t count at = length book - at
 
+-- `while at < book.len()`
 loop-holds : tie.Need-loop-holds Inv-loop μ-loop
 loop-holds c = omega arith
 
+-- `if sheet::is_marked(book, at, &TB)`
 is-marked-requires : tie.Need-is-marked-requires Inv-loop μ-loop
 is-marked-requires c κs = omega arith
 
+-- `count += 1`
 add-count : tie.Need-add-count Inv-loop μ-loop
 add-count c = omega arith
 
+-- `at += 1`
 add-at : tie.Need-add-at Inv-loop μ-loop
 add-at c = omega arith
 
+-- `while at < book.len()`
 loop-less : tie.Need-loop-less Inv-loop μ-loop
 loop-less c = omega arith
 
+-- `while at < book.len()`
 loop-again : tie.Need-loop-again Inv-loop μ-loop
 loop-again c = ⊎-elim (λ w. omega arith) (λ w. omega arith) (c .if1 .came)
 
+-- `count`
 returns : tie.Need-returns Inv-loop μ-loop
 returns c = search needs
 
