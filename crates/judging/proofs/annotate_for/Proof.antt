@@ -10,15 +10,19 @@ use Rattle.judging.proofs.BookGivesChoice.{Chose, was-refused, was-read
 use Rattle.judging.proofs.annotate_for.Statement.{statement}
 use Rattle.judging.proofs.annotate_for.Tie as tie
 
+-- `let read = book::read_for(a, book)`
 read-for-requires : tie.Need-read-for-requires
 read-for-requires c κs = architecture-proper _ (c .before .before .before .pre)
 
+-- `Reply::Refused(refusal) => Verdict::Refused(refusal)`
 enum-known-answer : tie.Need-enum-known-answer
 enum-known-answer c = search needs
 
+-- `let tables = read.tables`
 enum-told : tie.Need-enum-told
 enum-told c = search needs
 
+-- `annotate_tables(sheet, &tables, annotation)`
 slice-aggregate-annotate-tables : tie.Need-slice-aggregate-annotate-tables
 slice-aggregate-annotate-tables c = search needs
 
@@ -31,12 +35,14 @@ choice : (r : tie.After-read-for) → r .read-for .result .answer ≡ Reply.Done
     Chose (architectureOf (a .sheet .architecture)) (a .book .now) (r .read-for .result .tables)
 choice r e = was-read _ _ (r .read-for .result) (r .read-for .ensures) e
 
+-- `annotate_tables(sheet, &tables, annotation)`
 annotate-tables-requires : tie.Need-annotate-tables-requires
 annotate-tables-requires c κs =
     let t = c .before .before .before in
     let r = t .before .before in
     (entry r .pre, choice r (t .enum-told .given .1) .is-choice)
 
+-- `match answer`
 returns : tie.Need-returns
 unfolding bookFor _then_ annotated
 returns c =
@@ -44,9 +50,11 @@ returns c =
     let a = entry r .args in
     rw (was-refused (architectureOf (a .sheet .architecture)) (a .book .now) (r .read-for .result) (r .read-for .ensures) (c .before .answer .given .1)) (refl, refl)
 
+-- `match answer`
 same-length : tie.Need-same-length
 same-length c = search needs
 
+-- `match answer`
 returns-2 : tie.Need-returns-2
 unfolding bookFor _then_
 returns-2 c =

@@ -39,6 +39,7 @@ roomy c = c .before .before .before .before .before
 abbrev numbered : tie.After-numbers2 → tie.After-number
 numbered c = c .before .before .before .before
 
+-- `let shape = graph::fill(&mut targets, &mut steps, sheet, tables)`
 fill-requires : tie.Need-fill-requires
 fill-requires c κs = search needs
 
@@ -61,9 +62,11 @@ said n x e =
     let r = filled (roomy (n .before)) .fill in
     subst (λ (y : Answer). Says (r .result) (r .last .0) (r .last .1 .0) (n .number .last .0) y) e (n .number .ensures .0)
 
+-- `let n = shape.states * shape.total`
 mul-n : tie.Need-mul-n
 mul-n c = omega (arith, size-is (c .before), vertices-few _ (entry (c .before) .pre .0 .proper))
 
+-- `return Verdict::Refused(Refusal::AnnotationBufferTooShort)`
 returns : tie.Need-returns
 unfolding annotated
 returns c =
@@ -73,9 +76,11 @@ returns c =
     let e : roomFor s (chosen (s .architecture) (a .tables .now)) (a .annotation .now) ≡ refused AnnotationBufferTooShort = too-short _ _ _ _ (size-is f) (c .if1 .taken) in
     rw e (refl, refl)
 
+-- `&targets`
 slice-aggregate-number : tie.Need-slice-aggregate-number
 slice-aggregate-number c = search needs
 
+-- `&steps`
 slice-aggregate-number-2 : tie.Need-slice-aggregate-number-2
 slice-aggregate-number-2 c = search needs
 
@@ -84,6 +89,7 @@ room : (c : tie.Else1) → let a = entry (filled c) .args in let s = sheetOf (a 
     roomFor s (chosen (s .architecture) (a .tables .now)) (a .annotation .now) ≡ proper record { sheet = s; choice = chosen (s .architecture) (a .tables .now) }
 room c = long-enough _ _ _ _ (size-is (filled c)) (c .if1 .left)
 
+-- `let answer = annotation::number(&mut numbers, &mut stack, &mut waiting, &targets, &steps, shape)`
 number-requires : tie.Need-number-requires
 number-requires c κs =
     let f = filled (roomy c) in
@@ -91,15 +97,19 @@ number-requires c κs =
     let r = f .fill in
     (tables-sized _ _ (p .0 .proper) (p .1) (r .result) (r .last .0) (r .last .1 .0) (r .ensures), record { d-long = refl; s-long = refl; f-long = refl })
 
+-- `Answer::Loop => Verdict::Found(Finding::No)`
 enum-told : tie.Need-enum-told
 enum-told c = search needs
 
+-- `copy(annotation, &numbers, n)`
 enum-told-2 : tie.Need-enum-told-2
 enum-told-2 c = search needs
 
+-- `copy(annotation, &numbers, n)`
 slice-aggregate-copy : tie.Need-slice-aggregate-copy
 slice-aggregate-copy c = search needs
 
+-- `copy(annotation, &numbers, n)`
 copy-requires : tie.Need-copy-requires
 copy-requires c κs =
     let n = numbered c in
@@ -107,6 +117,7 @@ copy-requires c κs =
     let f = filled e in
     (e .if1 .left, omega (arith, n .number .ensures .1 .d-long, size-is f, vertices-few _ (entry f .pre .0 .proper)))
 
+-- `match answer`
 returns-2 : tie.Need-returns-2
 unfolding annotated annotatedBy
 returns-2 c =
@@ -117,9 +128,11 @@ returns-2 c =
     let e : loops s (chosen (s .architecture) (b .args .tables .now)) ≡ true = loops-exactly s _ (b .pre .0 .proper) (b .pre .1) .1 (loop-is f .0 (said n _ (c .enum-told .given .1))) in
     rw (room (roomy (n .before)), e) (refl, refl)
 
+-- `match answer`
 same-length : tie.Need-same-length
 same-length c = search needs
 
+-- `match answer`
 returns-3 : tie.Need-returns-3
 unfolding annotated annotatedBy
 returns-3 c =

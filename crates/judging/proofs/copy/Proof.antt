@@ -15,15 +15,19 @@ Inv-loop annotation₀ numbers n k₀ annotation k = (k ≤ n) × Appends annota
 abbrev μ-loop : tie.MeasureT-loop
 μ-loop annotation₀ numbers n k₀ annotation k = n - k
 
+-- `while k < n`
 loop-holds : tie.Need-loop-holds Inv-loop μ-loop
 loop-holds c = (omega arith, append-none (c .args .annotation .now) 0)
 
+-- `annotation[k] = numbers[k]`
 mul-annotation : tie.Need-mul-annotation Inv-loop μ-loop
 mul-annotation c = omega arith
 
+-- `annotation[k] = numbers[k]`
 shared-slice-read-annotation : tie.Need-shared-slice-read-annotation Inv-loop μ-loop
 shared-slice-read-annotation c = omega arith
 
+-- `annotation[k] = numbers[k]`
 mul-annotation-2 : tie.Need-mul-annotation-2 Inv-loop μ-loop
 mul-annotation-2 c = omega arith
 
@@ -35,15 +39,19 @@ head c = c .before .before
 long : (c : tie.At-loop Inv-loop μ-loop) → length (c .loop .annotation) ≡ length (c .before .args .annotation .now)
 long c = append-length (c .loop .inv .1) (omega (arith, c .loop .inv .0, c .before .pre .0))
 
+-- `annotation[k] = numbers[k]`
 slice-write-annotation : tie.Need-slice-write-annotation Inv-loop μ-loop
 slice-write-annotation c = omega (arith, long (head c), c .before .loop-test .taken, head c .before .pre .0)
 
+-- `k += 1`
 add-k : tie.Need-add-k Inv-loop μ-loop
 add-k c = omega arith
 
+-- `while k < n`
 loop-less : tie.Need-loop-less Inv-loop μ-loop
 loop-less c = omega arith
 
+-- `while k < n`
 loop-again : tie.Need-loop-again Inv-loop μ-loop
 loop-again c =
     let b = head c .before in
@@ -51,9 +59,11 @@ loop-again c =
     let h = c .before .loop-test .taken in
     (omega (arith, h), append-copy (b .args .numbers .now) (l .k) (omega (arith, h, b .pre .1)) (l .inv .1) (slice-write-annotation c))
 
+-- `while k < n`
 same-length : tie.Need-same-length Inv-loop μ-loop
 same-length c = long (c .before)
 
+-- `while k < n`
 returns : tie.Need-returns Inv-loop μ-loop
 unfolding front
 returns c =

@@ -27,6 +27,7 @@ filled c = c .before .before
 abbrev roomy : tie.After-steps2 → tie.Else1
 roomy c = c .before .before
 
+-- `let shape = graph::fill(&mut targets, &mut steps, sheet, tables)`
 fill-requires : tie.Need-fill-requires
 fill-requires c κs = search needs
 
@@ -34,9 +35,11 @@ fill-requires c κs = search needs
 size-is : (f : tie.After-fill) → f .fill .result .states * f .fill .result .total ≡ vertices (sheetOf (entry f .args .sheet))
 size-is f = shape-size _ _ (f .fill .ensures .shape-is)
 
+-- `if annotation.len() < shape.states * shape.total`
 mul-if1 : tie.Need-mul-if1
 mul-if1 c = omega (arith, size-is (c .before), vertices-few _ (entry (c .before) .pre .0 .proper))
 
+-- `return Verdict::Refused(Refusal::AnnotationBufferTooShort)`
 returns : tie.Need-returns
 unfolding judged
 returns c =
@@ -46,9 +49,11 @@ returns c =
     let e : roomFor s (chosen (s .architecture) (a .tables .now)) (a .annotation .now) ≡ refused AnnotationBufferTooShort = too-short _ _ _ _ (size-is f) (c .if1 .taken) in
     rw e
 
+-- `if annotation::is_valid(annotation, &targets, &steps, shape)`
 slice-aggregate-is-valid : tie.Need-slice-aggregate-is-valid
 slice-aggregate-is-valid c = search needs
 
+-- `if annotation::is_valid(annotation, &targets, &steps, shape)`
 slice-aggregate-is-valid-2 : tie.Need-slice-aggregate-is-valid-2
 slice-aggregate-is-valid-2 c = search needs
 
@@ -57,6 +62,7 @@ room : (c : tie.Else1) → let a = entry (filled c) .args in let s = sheetOf (a 
     roomFor s (chosen (s .architecture) (a .tables .now)) (a .annotation .now) ≡ proper record { sheet = s; choice = chosen (s .architecture) (a .tables .now) }
 room c = long-enough _ _ _ _ (size-is (filled c)) (c .if1 .left)
 
+-- `if annotation::is_valid(annotation, &targets, &steps, shape)`
 is-valid-requires : tie.Need-is-valid-requires
 is-valid-requires c κs =
     let f = filled (roomy c) in
@@ -73,10 +79,12 @@ says c =
     let r = f .fill in
     c .is-valid .ensures ∙ tables-judge _ _ (b .pre .0 .proper) (b .pre .1) (r .result) (r .last .0) (r .last .1 .0) (r .ensures) (b .args .annotation .now)
 
+-- `return Verdict::Found(Finding::Yes)`
 returns-2 : tie.Need-returns-2
 unfolding judged if
 returns-2 c = rw (room (roomy (c .before .before)), sym (says (c .before)) ∙ c .if2 .taken)
 
+-- `Verdict::Found(Finding::No)`
 returns-3 : tie.Need-returns-3
 unfolding judged if
 returns-3 c = rw (room (roomy (c .before .before)), sym (says (c .before)) ∙ c .if2 .left)
