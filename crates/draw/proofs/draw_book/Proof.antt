@@ -9,27 +9,35 @@ use Rattle.draw.proofs.draw_book.Tie as tie
 whole : (b : tie.Start) → IsProper (b .args .sheet .architecture)
 whole b = architecture-proper (b .args .sheet) (b .pre)
 
+-- `let reading = book::read_for(a, book)`
 read-for-requires : tie.Need-read-for-requires
 read-for-requires c κs = whole (c .before .before .before)
 
+-- `Reply::Refused(refusal) => print_refused(refusal)`
 enum-known-answer : tie.Need-enum-known-answer
 enum-known-answer c = search needs
 
+-- `Reply::Refused(refusal) => print_refused(refusal)`
 print-refused-requires : tie.Need-print-refused-requires
 print-refused-requires c κs = search needs
 
+-- `Reply::Done =>`
 enum-told : tie.Need-enum-told
 enum-told c = search needs
 
+-- `draw_automaton(automaton)`
 draw-automaton-requires : tie.Need-draw-automaton-requires
 draw-automaton-requires c κs = search needs
 
+-- `draw_tables(a, &tables)`
 draw-tables-requires : tie.Need-draw-tables-requires
 draw-tables-requires c κs = whole (c .before .before .before .before .before .before .before .before .before)
 
+-- `match answer`
 returns : tie.Need-returns
 returns c = search needs
 
+-- `match answer`
 returns-2 : tie.Need-returns-2
 returns-2 c = search needs
 

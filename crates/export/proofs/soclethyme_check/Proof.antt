@@ -5,12 +5,15 @@ use Rattle.model.specs.Numbers.{replyCode}
 use Rattle.export.proofs.soclethyme_check.Statement.{statement}
 use Rattle.export.proofs.soclethyme_check.Tie as tie
 
+-- `reply_code(planner::check(sheet))`
 check-requires : tie.Need-check-requires
 check-requires c κs = search needs
 
+-- `reply_code(planner::check(sheet))`
 reply-code-requires : tie.Need-reply-code-requires
 reply-code-requires c κs = search needs
 
+-- `reply_code(planner::check(sheet))`
 returns : tie.Need-returns
 returns c = c .reply-code .ensures ∙ ap replyCode (c .before .check .ensures)
 

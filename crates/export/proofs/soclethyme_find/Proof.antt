@@ -5,18 +5,23 @@ use Rattle.model.specs.Numbers.{outcomeCode}
 use Rattle.export.proofs.soclethyme_find.Statement.{statement}
 use Rattle.export.proofs.soclethyme_find.Tie as tie
 
+-- `outcome_code(planner::find(sheet, book, annotation))`
 find-requires : tie.Need-find-requires
 find-requires c κs = search needs
 
+-- `outcome_code(planner::find(sheet, book, annotation))`
 outcome-code-requires : tie.Need-outcome-code-requires
 outcome-code-requires c κs = search needs
 
+-- `outcome_code(planner::find(sheet, book, annotation))`
 same-length : tie.Need-same-length
 same-length c = search needs
 
+-- `outcome_code(planner::find(sheet, book, annotation))`
 same-length-2 : tie.Need-same-length-2
 same-length-2 c = search needs
 
+-- `outcome_code(planner::find(sheet, book, annotation))`
 returns : tie.Need-returns
 returns c = let f = c .before .before .before .before .before .find .ensures in (c .outcome-code .ensures ∙ ap outcomeCode (f .0), f .1)
 

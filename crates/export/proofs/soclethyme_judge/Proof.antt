@@ -5,12 +5,15 @@ use Rattle.model.specs.Numbers.{verdictCode}
 use Rattle.export.proofs.soclethyme_judge.Statement.{statement}
 use Rattle.export.proofs.soclethyme_judge.Tie as tie
 
+-- `verdict_code(planner::judge(sheet, book, annotation))`
 judge-requires : tie.Need-judge-requires
 judge-requires c κs = search needs
 
+-- `verdict_code(planner::judge(sheet, book, annotation))`
 verdict-code-requires : tie.Need-verdict-code-requires
 verdict-code-requires c κs = search needs
 
+-- `verdict_code(planner::judge(sheet, book, annotation))`
 returns : tie.Need-returns
 returns c = c .verdict-code .ensures ∙ ap verdictCode (c .before .judge .ensures)
 

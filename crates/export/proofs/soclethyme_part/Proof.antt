@@ -12,15 +12,19 @@ use Rattle.export.specs.After.{partBy}
 use Rattle.export.proofs.soclethyme_part.Statement.{statement}
 use Rattle.export.proofs.soclethyme_part.Tie as tie
 
+-- `let range = planner::range(sheet, book, process)`
 range-requires : tie.Need-range-requires
 range-requires c κs = search needs
 
+-- `Reply::Refused(refusal) => refusal.number()`
 enum-known-answer : tie.Need-enum-known-answer
 enum-known-answer c = search needs
 
+-- `Reply::Refused(refusal) => refusal.number()`
 number-requires : tie.Need-number-requires
 number-requires c κs = search needs
 
+-- `Reply::Done => range.end as u32 * 65536 + range.start as u32`
 enum-told : tie.Need-enum-told
 enum-told c = search needs
 
@@ -39,24 +43,30 @@ inside r = let a = entry r .args in rw (r .range .ensures) (part-within (a .shee
 answered : (r : tie.After-range) (x : Reply) → r .range .result .answer ≡ x → let a = entry r .args in partOf (a .sheet .now) (a .book .now) (a .process) .answer ≡ x
 answered r x e = sym (ap (λ (y : AfterPart). y .answer) (r .range .ensures)) ∙ e
 
+-- `Reply::Done => range.end as u32 * 65536 + range.start as u32`
 cast-result : tie.Need-cast-result
 cast-result c = omega (arith, inside (given c) .short)
 
+-- `Reply::Done => range.end as u32 * 65536 + range.start as u32`
 mul-result : tie.Need-mul-result
 mul-result c = omega (arith, inside (given c) .short)
 
+-- `Reply::Done => range.end as u32 * 65536 + range.start as u32`
 cast-result-2 : tie.Need-cast-result-2
 cast-result-2 c = let i = inside (given (c .before)) in omega (arith, i .rising, i .short)
 
+-- `Reply::Done => range.end as u32 * 65536 + range.start as u32`
 add-result : tie.Need-add-result
 add-result c = let i = inside (given (c .before)) in omega (arith, i .rising, i .short)
 
+-- `match answer`
 returns : tie.Need-returns
 unfolding partBy
 returns c =
     let e = answered (c .before .before .before .before) _ (c .before .before .answer .given .1) in
     rw e (c .number .ensures)
 
+-- `match answer`
 returns-2 : tie.Need-returns-2
 unfolding partBy
 returns-2 c =

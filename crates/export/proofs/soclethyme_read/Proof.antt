@@ -11,24 +11,30 @@ use Rattle.export.proofs.soclethyme_read.Tie as tie
 answered : (r : tie.After-read) (x : Reply) → r .read .result .answer ≡ x → let a = r .before .before .before .args in readOf (a .sheet .now) (a .book .now) .answer ≡ x
 answered r x e = sym (ap (λ (y : AfterRead). y .answer) (r .read .ensures)) ∙ e
 
+-- `let read = planner::read(sheet, book)`
 read-requires : tie.Need-read-requires
 read-requires c κs = search needs
 
+-- `Reply::Refused(refusal) => refusal.number()`
 enum-known-answer : tie.Need-enum-known-answer
 enum-known-answer c = search needs
 
+-- `Reply::Refused(refusal) => refusal.number()`
 number-requires : tie.Need-number-requires
 number-requires c κs = search needs
 
+-- `let new = read.tables`
 enum-told : tie.Need-enum-told
 enum-told c = search needs
 
+-- `match answer`
 returns : tie.Need-returns
 unfolding tablesBy
 returns c =
     let e = answered (c .before .before .before .before) _ (c .before .before .answer .given .1) in
     rw e (c .number .ensures, refl)
 
+-- `match answer`
 returns-2 : tie.Need-returns-2
 unfolding tablesBy
 returns-2 c =

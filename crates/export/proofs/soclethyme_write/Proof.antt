@@ -5,15 +5,19 @@ use Rattle.model.specs.Numbers.{replyCode}
 use Rattle.export.proofs.soclethyme_write.Statement.{statement}
 use Rattle.export.proofs.soclethyme_write.Tie as tie
 
+-- `reply_code(planner::write(sheet, tables, book))`
 write-requires : tie.Need-write-requires
 write-requires c κs = search needs
 
+-- `reply_code(planner::write(sheet, tables, book))`
 reply-code-requires : tie.Need-reply-code-requires
 reply-code-requires c κs = search needs
 
+-- `reply_code(planner::write(sheet, tables, book))`
 same-length : tie.Need-same-length
 same-length c = search needs
 
+-- `reply_code(planner::write(sheet, tables, book))`
 returns : tie.Need-returns
 returns c = let w = c .before .before .before .write .ensures in (c .reply-code .ensures ∙ ap replyCode (w .0), w .1)
 

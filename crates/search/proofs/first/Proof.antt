@@ -69,11 +69,13 @@ told f r e =
     subst (λ (r : Searched). Finds (s (started g)) (g .begin .last .0) (g .begin .last .1 .0) (f .search .last .0) (f .search .last .1 .0) r) e (f .search .ensures .0)
 
 -- ---- needs
+-- `begin(&mut values, &mut unset, witness, 0, n)`
 begin-requires : tie.Need-begin-requires Inv-loop μ-loop
 begin-requires c κs =
     let b = c .before .before .before .before in
     ((omega arith, omega (arith, count b, made b .kinds-are .few)), b .pre .1 .1 .0)
 
+-- `let found = search(&mut values, &mut unset, n, sheet, fixed, numbers, stack, waiting, targets, steps)`
 search-requires : tie.Need-search-requires Inv-loop μ-loop
 search-requires c κs =
     let g = c .before .before .before .before .before .before .before in
@@ -81,23 +83,28 @@ search-requires c κs =
     let r = begun-ready (begun g) (made b .proper .proper .architecture) (made b .kinds-are .few) (λ k h. absurd (omega arith)) in
     (made b, (r, (omega (arith, opens-few (s b .architecture) _ _ r, count b), b .pre .1 .1 .1)))
 
+-- `Searched::Nothing => return Searched::Nothing`
 enum-told : tie.Need-enum-told Inv-loop μ-loop
 enum-told c = search needs
 
+-- `Searched::Nothing => return Searched::Nothing`
 returns : tie.Need-returns Inv-loop μ-loop
 returns c =
     let f = c .before .before in
     let g = begun-for f in
     nothing-first (s (started g)) _ _ _ (made (started g) .proper .proper) (begun g) (told f _ (c .enum-told .given .1) .none-keeps)
 
+-- `Searched::Nothing => return Searched::Nothing`
 enum-told-2 : tie.Need-enum-told-2 Inv-loop μ-loop
 enum-told-2 c = search needs
 
+-- `while i < n`
 loop-holds : tie.Need-loop-holds Inv-loop μ-loop
 loop-holds c =
     let f = c .before .before in
     (omega arith, leading-none _ _ (told f _ (c .enum-told2 .given .1) .witness), f .search .ensures .1)
 
+-- `settle(witness, i, n, sheet, fixed, numbers, stack, waiting, targets, steps)`
 settle-requires : tie.Need-settle-requires Inv-loop μ-loop
 settle-requires c κs =
     let g = c .before .before .before .before .before .before in
@@ -109,17 +116,21 @@ settle-requires c κs =
 abbrev turn : At tie.After-settle → At tie.In-loop
 turn c = c .before .before .before .before .before .before .before
 
+-- `i += 1`
 add-i : tie.Need-add-i Inv-loop μ-loop
 add-i c = let b = entered (turn c .before) in omega (arith, count b, made b .kinds-are .few, turn c .loop-test .taken)
 
+-- `while i < n`
 loop-less : tie.Need-loop-less Inv-loop μ-loop
 loop-less c = omega (arith, turn c .loop-test .taken)
 
+-- `while i < n`
 loop-again : tie.Need-loop-again Inv-loop μ-loop
 loop-again c =
     let l = turn c .before in
     (omega (arith, turn c .loop-test .taken), leading-more _ (l .loop .i) _ _ (l .loop .inv .1) (c .settle .ensures .0), c .settle .ensures .1)
 
+-- `Searched::Tables`
 returns-2 : tie.Need-returns-2 Inv-loop μ-loop
 returns-2 c =
     let l = c .before in

@@ -16,31 +16,39 @@ Inv-loop kind from v₀ v = (from ≤ v) × (v ≤ 256) × ((u : ℕ) → u < v 
 abbrev μ-loop : tie.MeasureT-loop
 μ-loop kind from v₀ v = 256 - v
 
+-- `while v < 256`
 loop-holds : tie.Need-loop-holds Inv-loop μ-loop
 loop-holds c = (omega arith, omega arith, λ u h m. h)
 
+-- `if choice::may_be(kind, v as u8)`
 cast-may-be : tie.Need-cast-may-be Inv-loop μ-loop
 cast-may-be c = omega arith
 
+-- `if choice::may_be(kind, v as u8)`
 may-be-requires : tie.Need-may-be-requires Inv-loop μ-loop
 may-be-requires c κs = search needs
 
+-- `return v`
 returns : tie.Need-returns Inv-loop μ-loop
 returns c =
     let l = c .before .before .before .loop in
     record { above = l .inv .0; inside = l .inv .1; may-be = λ h. sym (c .before .may-be .ensures) ∙ c .if1 .taken; skipped = l .inv .2 }
 
+-- `v += 1`
 add-v : tie.Need-add-v Inv-loop μ-loop
 add-v c = omega arith
 
+-- `while v < 256`
 loop-less : tie.Need-loop-less Inv-loop μ-loop
 loop-less c = omega arith
 
+-- `while v < 256`
 loop-again : tie.Need-loop-again Inv-loop μ-loop
 loop-again c =
     let l = c .before .before .before .loop in
     (omega arith, omega arith, below-more _ (l .v) (l .inv .2) (λ m. absurd (true≢false (sym m ∙ sym (c .before .may-be .ensures) ∙ c .if1 .left))))
 
+-- `256`
 returns-2 : tie.Need-returns-2 Inv-loop μ-loop
 returns-2 c =
     let l = c .before .loop in

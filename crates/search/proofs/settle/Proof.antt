@@ -87,42 +87,54 @@ told f r e =
     subst (λ (r : Searched). Finds (s (started g)) (set (g .begin .last .0) i v) (set (g .begin .last .1 .0) i 0) (f .search .last .0) (f .search .last .1 .0) r) e (f .search .ensures .0)
 
 -- ---- needs
+-- `let kind = fixed[6144 + i]`
 add-kind : tie.Need-add-kind Inv-loop μ-loop
 add-kind c = let b = c .before in omega (arith, inside b, made b .kinds-are .few)
 
+-- `let kind = fixed[6144 + i]`
 mul-kind : tie.Need-mul-kind Inv-loop μ-loop
 mul-kind c = let b = c .before in omega (arith, inside b, made b .kinds-are .few)
 
+-- `let kind = fixed[6144 + i]`
 shared-slice-read-kind : tie.Need-shared-slice-read-kind Inv-loop μ-loop
 shared-slice-read-kind c = let b = c .before .before in omega (arith, inside b, made b .kinds-are .few, made b .long)
 
+-- `let most = wide(witness[i])`
 element-copy-out-wide : tie.Need-element-copy-out-wide Inv-loop μ-loop
 element-copy-out-wide c = let b = c .before .before in omega (arith, inside b, made b .kinds-are .few)
 
+-- `let most = wide(witness[i])`
 wide-requires : tie.Need-wide-requires Inv-loop μ-loop
 wide-requires c κs = search needs
 
+-- `let mut v = next_value(kind, 0)`
 next-value-requires : tie.Need-next-value-requires Inv-loop μ-loop
 next-value-requires c κs = search needs
 
+-- `while v < most`
 loop-holds : tie.Need-loop-holds Inv-loop μ-loop
 loop-holds c = (trying-none _ _ _ (c .next-value .ensures), refl, c .before .before .before .before .before .pre .1 .1 .1)
 
+-- `begin(&mut values, &mut unset, witness, i, n)`
 begin-requires : tie.Need-begin-requires Inv-loop μ-loop
 begin-requires c κs =
     let l = c .before .before .before .before in
     let b = l .before .before .before .before .before .before in
     ((omega (arith, inside b, count b), omega (arith, made b .kinds-are .few, count b)), ap length (l .loop .inv .1) ∙ witness b .long)
 
+-- `values[i] = v as u8`
 cast-values : tie.Need-cast-values Inv-loop μ-loop
 cast-values c = omega arith
 
+-- `values[i] = v as u8`
 array-write-values : tie.Need-array-write-values Inv-loop μ-loop
 array-write-values c = let b = started c in omega (arith, inside b, made b .kinds-are .few)
 
+-- `unset[i] = 0`
 array-write-unset : tie.Need-array-write-unset Inv-loop μ-loop
 array-write-unset c = let b = started c in omega (arith, inside b, made b .kinds-are .few)
 
+-- `let found = search(&mut values, &mut unset, n, sheet, fixed, numbers, stack, waiting, targets, steps)`
 search-requires : tie.Need-search-requires Inv-loop μ-loop
 search-requires c κs =
     let g = c .before .before .before .before .before .before .before in
@@ -132,9 +144,11 @@ search-requires c κs =
     let r = set-ready (opened g) (l .loop .v) m in
     (made b, (r, (omega (arith, opens-few (s b .architecture) _ _ r, count b), l .loop .inv .2)))
 
+-- `*witness = values`
 enum-told : tie.Need-enum-told Inv-loop μ-loop
 enum-told c = search needs
 
+-- `return`
 returns : tie.Need-returns Inv-loop μ-loop
 returns c =
     let f = c .before .before in
@@ -142,18 +156,23 @@ returns c =
     let l = looping g in
     (begun-found (settling (started g)) (begun g) (l .loop .v) _ (told f _ (c .enum-told .given .1)) (l .loop .inv .0), f .search .ensures .1)
 
+-- `*witness = values`
 enum-told-2 : tie.Need-enum-told-2 Inv-loop μ-loop
 enum-told-2 c = search needs
 
+-- `v = next_value(kind, v + 1)`
 add-next-value : tie.Need-add-next-value Inv-loop μ-loop
 add-next-value c = omega arith
 
+-- `v = next_value(kind, v + 1)`
 next-value-requires-2 : tie.Need-next-value-requires-2 Inv-loop μ-loop
 next-value-requires-2 c κs = search needs
 
+-- `while v < most`
 loop-less : tie.Need-loop-less Inv-loop μ-loop
 loop-less c = omega arith
 
+-- `while v < most`
 loop-again : tie.Need-loop-again Inv-loop μ-loop
 loop-again c =
     let f = c .before .before .before in
@@ -162,6 +181,7 @@ loop-again c =
     let r = told f _ (c .before .enum-told2 .given .1) in
     (trying-more _ _ _ _ (c .next-value2 .ensures) (l .loop .inv .0) (begun-lost (settling (started g)) (begun g) (l .loop .v) (r .none-keeps)), l .loop .inv .1, f .search .ensures .1)
 
+-- `while v < most`
 returns-2 : tie.Need-returns-2 Inv-loop μ-loop
 returns-2 c =
     let l = c .before in

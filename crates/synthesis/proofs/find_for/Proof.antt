@@ -34,6 +34,7 @@ returns c =
     let e = no-room (sheetOf (a .sheet)) (a .book .now) (a .annotation .now) (c .before .room .given .0 .0) (sym (c .before .room .given .1) ∙ c .before .before .before .check-room .ensures) in
     rw e (refl, (refl, refl))
 
+-- `if let Reply::Refused(refusal) = room`
 enum-told : tie.Need-enum-told
 enum-told c = search needs
 

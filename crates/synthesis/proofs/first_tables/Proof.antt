@@ -5,12 +5,15 @@ use borrow.Author.Needs.{needs}
 use Rattle.synthesis.proofs.first_tables.Statement.{statement}
 use Rattle.synthesis.proofs.first_tables.Tie as tie
 
+-- `let n = exploration::prepare(&mut fixed, sheet)`
 slice-aggregate-prepare : tie.Need-slice-aggregate-prepare
 slice-aggregate-prepare c = search needs
 
+-- `let n = exploration::prepare(&mut fixed, sheet)`
 prepare-requires : tie.Need-prepare-requires
 prepare-requires c κs = search needs
 
+-- `search::first(witness, n, sheet, &fixed, &mut numbers, &mut stack, &mut waiting, &mut targets, &mut steps)`
 slice-aggregate-first : tie.Need-slice-aggregate-first
 slice-aggregate-first c = search needs
 
@@ -18,12 +21,14 @@ slice-aggregate-first c = search needs
 abbrev made : tie.After-steps → tie.After-prepare
 made c = c .before .before .before .before .before .before .before .before
 
+-- `search::first(witness, n, sheet, &fixed, &mut numbers, &mut stack, &mut waiting, &mut targets, &mut steps)`
 first-requires : tie.Need-first-requires
 first-requires c κs =
     let p = made c .prepare .ensures in
     let four = refl {A = ℕ} {a = 4096} in
     (p .0, (p .1, (made c .before .before .pre .1, record { numbers-long = four; stack-long = four; waiting-long = four; targets-long = four; steps-long = four })))
 
+-- `search::first(witness, n, sheet, &fixed, &mut numbers, &mut stack, &mut waiting, &mut targets, &mut steps)`
 returns : tie.Need-returns
 returns c = search needs
 
