@@ -2,7 +2,7 @@
 ghost use mathlib.Core.Path.{_≡_};
 ghost use lib.ListN.{length};
 
-// ---- where the cases differ: places in a sheet
+// ---- where the cases differ: bytes of a sheet
 // The bound of process 0, in every sheet here.
 pub const BOUND: usize = 9;
 

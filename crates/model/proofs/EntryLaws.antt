@@ -12,7 +12,7 @@ use Rattle.model.specs.Mask.{within, count}
 use Rattle.model.specs.Sheet.{Process, Architecture, ProperArchitecture}
 use Rattle.model.specs.Choice.{Entry, output, next, may, row, times, rows, entries, Fits, done, also, IsChoice, Before, lower, later}
 
--- ---- by place
+-- ---- by index
 pub fits-at : {es : List Entry} {c : List ℕ} → Fits es c → (e₀ : Entry) (i : ℕ) → i < length es → may (getD es i e₀) (getD c i 0) ≡ true
 fits-at done e₀ i l = absurd (omega arith)
 fits-at (also m f) e₀ zero l = m
@@ -23,7 +23,7 @@ fits-set done e₀ i v l m = absurd (omega arith)
 fits-set (also n f) e₀ zero v l m = also m f
 fits-set (also n f) e₀ (suc i) v l m = also n (fits-set f e₀ i v (omega arith) m)
 
--- the first place that differs
+-- the first entry that differs
 pub before-at : {c d : List ℕ} → Before d c → (j : ℕ) × (j < length c) × ((k : ℕ) → k < j → getD d k 0 ≡ getD c k 0) × (getD d j 0 < getD c j 0)
 before-at (lower l) = (0, omega arith, λ k h. absurd (omega arith), l)
 before-at (later {v = v} {c = d} {d = c} b) = let r = before-at b in (suc (r .0), omega (arith, r .1), same (r .0) (r .2), r .3)

@@ -29,7 +29,7 @@ unfoldable pub count : ℕ → ℕ
 unfolding ones
 count m = ones m
 
--- the number made of v's bits at the places of m, in rising order, lowest first; k places are looked at
+-- the number made of v's bits where m has one, in rising order, lowest first; k bits are looked at
 unfoldable pub packed : ℕ → ℕ → ℕ → ℕ
 packed zero m v = 0
 packed (suc k) m v = (m % 2) * (v % 2) + (1 + m % 2) * packed k (m / 2) (v / 2)

@@ -14,7 +14,7 @@ use architecture::Architecture;
 use model::ProcessState;
 use model::Refusal;
 
-// ---- bytes and numbers: each function that puts something answers the place behind it
+// ---- bytes and numbers: each function that puts something answers the index behind it
 // One byte.
 fn put(text: &mut [u8], at: usize, byte: u8) -> usize
     requires { ⌜ at < length (now text) ⌝ }

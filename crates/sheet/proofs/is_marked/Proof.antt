@@ -8,7 +8,7 @@ use Rattle.sheet.proofs.RefusalTests.{too-few, enough, mark-rest}
 use Rattle.sheet.proofs.is_marked.Statement.{statement}
 use Rattle.sheet.proofs.is_marked.Tie as tie
 
--- the place at which the first byte is compared
+-- the position at which the first byte is compared
 abbrev comparing : tie.After-if22 → tie.Else1
 comparing c = c .before .before
 

@@ -19,7 +19,7 @@ use Rattle.sheet.proofs.ReadingOn.{opening, front-is}
 use Rattle.sheet.proofs.read_front.Statement.{statement}
 use Rattle.sheet.proofs.read_front.Tie as tie
 
--- ---- the places: the mark is whole; it is AR; all of AR is there; its fields are in order
+-- ---- the positions: the mark is whole; it is AR; all of AR is there; its fields are in order
 abbrev entry : tie.After-opened → tie.Start
 entry c = c .before .before
 

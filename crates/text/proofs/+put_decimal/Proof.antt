@@ -32,7 +32,7 @@ abbrev claims : ℕ → put-decimal-lts.Claims
 claims t = (digit-reads.Asked, digit-reads.Learnt, put-reads.Asked, put-reads.Learnt, put-decimal-below t, put-decimal.Post)
 
 module _ (t : ℕ) where
-  -- a need, or a place of the code
+  -- a need, or a position in the code
   abbrev Of : (put-decimal-lts.Claims → In 1 put-decimal-kinds.ps → Out 1 put-decimal-kinds.ps put-decimal-kinds.r → Type 0) → Type 0
   Of N = N (claims t) (put-decimal-at t) put-decimal.Post
 

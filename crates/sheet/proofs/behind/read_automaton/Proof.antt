@@ -32,7 +32,7 @@ module _ (s : tie.Start) where
   abbrev known : FrontKnown bytes (s .args .front)
   known = s .pre
 
--- ---- the places: two bytes are left; they are AU, which may stand here; all of it is there
+-- ---- the positions: two bytes are left; they are AU, which may stand here; all of it is there
 abbrev entry : tie.After-architecture → tie.Start
 entry c = c .before .before .before
 

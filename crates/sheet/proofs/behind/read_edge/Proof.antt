@@ -14,7 +14,7 @@ use Rattle.sheet.proofs.RefusalTests.{too-few, enough, reads-as}
 use Rattle.sheet.proofs.behind.read_edge.Statement.{statement}
 use Rattle.sheet.proofs.behind.read_edge.Tie as tie
 
--- ---- what comes in, and the place at which the whole ED is there
+-- ---- what comes in, and the position at which the whole ED is there
 module _ (s : tie.Start) where
   abbrev bytes : List ℕ
   bytes = s .args .sheet .now

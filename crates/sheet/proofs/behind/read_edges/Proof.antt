@@ -25,7 +25,7 @@ Inv-loop sheet start variables read₀ at₀ t9 read at = EdgesRead sheet start 
 abbrev μ-loop : tie.MeasureT-loop
 μ-loop sheet start variables read₀ at₀ t9 read at = 64 - read .edges
 
--- ---- the places: the loop's head, and an ED
+-- ---- the positions: the loop's head, and an ED
 abbrev Head : Type 0
 Head = tie.At-loop Inv-loop μ-loop
 

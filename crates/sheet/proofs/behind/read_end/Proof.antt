@@ -31,7 +31,7 @@ module _ (s : tie.Start) where
   abbrev automaton : Automaton
   automaton = automatonOf (s .args .so-far)
 
--- ---- the places: two bytes are left, and they are EN
+-- ---- the positions: two bytes are left, and they are EN
 abbrev entry : tie.Else1 → tie.Start
 entry c = c .before .before
 

@@ -26,7 +26,7 @@ module _ (s : tie.Start) where
   abbrev rejecting : ℕ
   rejecting = byte bytes (s .args .at + 4) + 256 * byte bytes (s .args .at + 5)
 
--- ---- the places: the four bytes are read, and an automaton is made of them
+-- ---- the positions: the four bytes are read, and an automaton is made of them
 abbrev entry : tie.After-two-bytes → tie.Start
 entry c = c .before .before .before .before .before .before
 

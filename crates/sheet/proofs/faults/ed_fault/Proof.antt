@@ -9,7 +9,7 @@ use Rattle.model.specs.Reading.{edFault}
 use Rattle.sheet.proofs.faults.ed_fault.Statement.{statement}
 use Rattle.sheet.proofs.faults.ed_fault.Tie as tie
 
--- ---- the places: each behind a test that failed
+-- ---- the positions: each behind a test that failed
 abbrev entry : tie.Else1 → tie.Start
 entry c = c .before .before
 

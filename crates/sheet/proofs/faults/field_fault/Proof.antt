@@ -10,7 +10,7 @@ use Rattle.model.specs.Reading.{fieldFault}
 use Rattle.sheet.proofs.faults.field_fault.Statement.{statement}
 use Rattle.sheet.proofs.faults.field_fault.Tie as tie
 
--- ---- the places: the inputs are variables; so are the outputs; none is the environment's
+-- ---- the positions: the inputs are variables; so are the outputs; none is the environment's
 abbrev entry : tie.Else1 → tie.Start
 entry c = c .before .before
 

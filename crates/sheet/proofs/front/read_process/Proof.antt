@@ -37,7 +37,7 @@ module _ (s : tie.Start) where
   abbrev known : FrontKnown bytes (s .args .so-far)
   known = s .pre .0
 
--- ---- the places: the whole PR is there; its own fields are in order; so is all of it
+-- ---- the positions: the whole PR is there; its own fields are in order; so is all of it
 abbrev Whole : Type 0
 Whole = tie.Else1
 

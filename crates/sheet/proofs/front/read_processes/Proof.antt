@@ -26,7 +26,7 @@ Inv-loop sheet read₀ t5 read = ProcessesRead sheet read₀ read
 abbrev μ-loop : tie.MeasureT-loop
 μ-loop sheet read₀ t5 read = 4 - read .architecture .processes
 
--- ---- the places: the loop's head, and a PR
+-- ---- the positions: the loop's head, and a PR
 abbrev Head : Type 0
 Head = tie.At-loop Inv-loop μ-loop
 
