@@ -1,6 +1,7 @@
 pub mod Mask
 pub mod Sheet
 pub mod Reading
+pub mod SheetFile
 pub mod Compose
 pub mod Choice
 pub mod RunGraph

@@ -1,0 +1,98 @@
+-- 01, "The sheet file" and refusals 1 to 7 a second time, without a reader: how a sheet is written, and which rows of bytes are none.
+use mathlib.Core.Path.{_≡_}
+use mathlib.Core.Logic.{_⊎_}
+use mathlib.Core.List.{List, [], _∷_, _++_}
+use Prim.Native.Nat.{ℕ, _/_, _%_, _≤_, _<_}
+use lib.ListN.{length}
+use Rattle.model.specs.declared.Refusal.{Refusal}
+use Rattle.model.specs.declared.Refusal.the-variants.{WrongMark, BadArchitecture, BadProcess, NoOwnerOrTooMany, BadAutomaton, BadEdge}
+use Rattle.model.specs.Sheet.{Process, Architecture, Edge, Automaton, Sheet, withProcess, withEdge, ProperFront, ProperArchitecture, ProperAutomaton, ProperSheet}
+use Rattle.model.specs.Reading.{AR, PR, AU, ED, EN, byte}
+
+-- ---- the records, each its mark and its fields
+-- PR
+unfoldable pub processBytes : Process → List ℕ
+processBytes p = PR ++ (p .inputs ∷ p .outputs ∷ p .bound ∷ [])
+
+-- ED
+unfoldable pub edgeBytes : Edge → List ℕ
+edgeBytes e = ED ++ (e .from ∷ e .to ∷ e .on ∷ e .off ∷ [])
+
+-- AU: the rejecting mask in two bytes, low byte first
+unfoldable pub statesBytes : Automaton → List ℕ
+statesBytes u = AU ++ (u .states ∷ u .initial ∷ u .rejecting % 256 ∷ u .rejecting / 256 ∷ [])
+
+-- processes in file order
+unfoldable pub processesBytes : List Process → List ℕ
+unfolding processBytes
+processesBytes [] = []
+processesBytes (p ∷ ps) = processBytes p ++ processesBytes ps
+
+-- edges in file order
+unfoldable pub edgesBytes : List Edge → List ℕ
+unfolding edgeBytes
+edgesBytes [] = []
+edgesBytes (e ∷ es) = edgeBytes e ++ edgesBytes es
+
+-- AR and every PR
+unfoldable pub frontBytes : Architecture → List ℕ
+unfolding processesBytes
+frontBytes a = AR ++ (a .variables ∷ a .environment ∷ a .root ∷ []) ++ processesBytes (a .processes)
+
+-- AU and every ED
+unfoldable pub automatonBytes : Automaton → List ℕ
+unfolding statesBytes edgesBytes
+automatonBytes u = statesBytes u ++ edgesBytes (u .edges)
+
+-- all records before EN
+unfoldable pub recordsBytes : Sheet → List ℕ
+unfolding frontBytes automatonBytes
+recordsBytes s = frontBytes (s .architecture) ++ automatonBytes (s .automaton)
+
+-- the writing of a sheet: its records one after the other, EN the last
+unfoldable pub sheetBytes : Sheet → List ℕ
+unfolding recordsBytes
+sheetBytes s = recordsBytes s ++ EN
+
+-- what a file holds
+abbrev pub Bytes : List ℕ → Type 0
+Bytes b = (i : ℕ) → byte b i < 256
+
+-- ---- the marks that may stand behind proper records
+-- behind AR and the PR: a PR up to the fourth, AU behind one or more
+abbrev pub FollowsFront : Architecture → List ℕ → Type 0
+FollowsFront a m = ((m ≡ PR) × (length (a .processes) < 4)) ⊎ ((m ≡ AU) × (1 ≤ length (a .processes)))
+
+-- behind AU and the ED: an ED up to the 64th, EN
+abbrev pub FollowsEdges : Automaton → List ℕ → Type 0
+FollowsEdges u m = ((m ≡ ED) × (length (u .edges) < 64)) ⊎ (m ≡ EN)
+
+-- ---- 1: the row ends within a mark, or within the record of a mark that may stand there
+pub data Unfinished : List ℕ → Type 0 where
+  in-first-mark : (x : List ℕ) → length x < 2 → Unfinished x
+  in-architecture : (x : List ℕ) → length x < 3 → Unfinished (AR ++ x)
+  in-mark-behind-front : (a : Architecture) (x : List ℕ) → ProperFront a → length x < 2 → Unfinished (frontBytes a ++ x)
+  in-process : (a : Architecture) (x : List ℕ) → ProperFront a → length (a .processes) < 4 → length x < 3 → Unfinished (frontBytes a ++ PR ++ x)
+  in-states : (a : Architecture) (x : List ℕ) → ProperFront a → 1 ≤ length (a .processes) → length x < 4 → Unfinished (frontBytes a ++ AU ++ x)
+  in-mark-behind-edges : (s : Sheet) (x : List ℕ) → ProperSheet s → length x < 2 → Unfinished (recordsBytes s ++ x)
+  in-edge : (s : Sheet) (x : List ℕ) → ProperSheet s → length (s .automaton .edges) < 64 → length x < 4 → Unfinished (recordsBytes s ++ ED ++ x)
+
+-- ---- 2 to 7: the row ends with its first faulty record, which makes the proper ones before it improper
+pub data Faulty : List ℕ → Refusal → Type 0 where
+  wrong-first-mark : (m : List ℕ) → length m ≡ 2 → ¬ (m ≡ AR) → Faulty m WrongMark
+  bad-architecture : (a : Architecture) → a .processes ≡ [] → ¬ ProperFront a → Faulty (frontBytes a) BadArchitecture
+  wrong-mark-behind-front : (a : Architecture) (m : List ℕ) → ProperFront a → length m ≡ 2 → ¬ FollowsFront a m → Faulty (frontBytes a ++ m) WrongMark
+  bad-process : (a : Architecture) (p : Process) → ProperFront a → length (a .processes) < 4 → ¬ ProperFront (withProcess a p) → Faulty (frontBytes a ++ processBytes p) BadProcess
+  no-owner-or-too-many : (a : Architecture) (u : Automaton) → ProperFront a → 1 ≤ length (a .processes) → ¬ ProperArchitecture a → Faulty (frontBytes a ++ statesBytes u) NoOwnerOrTooMany
+  bad-automaton : (a : Architecture) (u : Automaton) → ProperArchitecture a → u .edges ≡ [] → ¬ ProperAutomaton (a .variables) u → Faulty (frontBytes a ++ statesBytes u) BadAutomaton
+  wrong-mark-behind-edges : (s : Sheet) (m : List ℕ) → ProperSheet s → length m ≡ 2 → ¬ FollowsEdges (s .automaton) m → Faulty (recordsBytes s ++ m) WrongMark
+  bad-edge : (s : Sheet) (e : Edge) → ProperSheet s → length (s .automaton .edges) < 64 → ¬ ProperAutomaton (s .architecture .variables) (withEdge (s .automaton) e)
+      → Faulty (recordsBytes s ++ edgeBytes e) BadEdge
+  byte-behind-end : (s : Sheet) (x : ℕ) → ProperSheet s → Faulty (sheetBytes s ++ (x ∷ [])) WrongMark
+
+-- the row begins with records up to its first faulty one, whatever follows
+pub record BeginsFaulty (b : List ℕ) (r : Refusal) : Type 0 where
+  pub faulty : List ℕ
+  pub rest : List ℕ
+  pub whole : b ≡ faulty ++ rest
+  pub fault : Faulty faulty r
