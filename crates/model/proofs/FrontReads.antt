@@ -92,23 +92,23 @@ pub opening : Architecture → Architecture
 opening a = record { variables = a .variables; environment = a .environment; root = a .root; processes = [] }
 
 -- a whole AR is tested, and then the processes are read
-pub opening-next : (a : Architecture) (x : List ℕ) → readFront (frontBytes a ++ x) ≡ refuse_when_else_ BadArchitecture (arFault a) (readProcesses 4 (opening a) (frontBytes a ++ x) 5)
+pub opening-next : (a : Architecture) (x b : List ℕ) → b ≡ frontBytes a ++ x → readFront b ≡ refuse_when_else_ BadArchitecture (arFault a) (readProcesses 4 (opening a) b 5)
 unfolding readFront frontBytes opening arFault
-opening-next a x =
-    let b : List ℕ = frontBytes a ++ x in
-    let start : At b 0 b = behind [] b in
+opening-next a x b e =
+    let start : At b 0 (frontBytes a ++ x) = behind [] (frontBytes a ++ x) e in
     let two : short b 0 2 ≡ false = long-enough start 2 (omega arith) in
     let five : short b 0 5 ≡ false = long-enough start 5 (omega arith) in
     let mark : marked b 0 AR ≡ true = marked-at start AR in
     go SheetTooShort _ two ∙ go WrongMark _ (ap not mark) ∙ go SheetTooShort _ five
+    ∙ ap (λ (y : List ℕ). refuse_when_else_ BadArchitecture (arFault (architectureAt y)) (readProcesses 4 (architectureAt y) b 5)) e
 
 -- AR and the processes, with room for k more
-pub front-through : (a : Architecture) (x : List ℕ) (k : ℕ) → ProperFront a → length (a .processes) + k ≡ 4
-    → readFront (frontBytes a ++ x) ≡ readProcesses k a (frontBytes a ++ x) (length (frontBytes a))
+pub front-through : (a : Architecture) (x b : List ℕ) (k : ℕ) → b ≡ frontBytes a ++ x → ProperFront a → length (a .processes) + k ≡ 4
+    → readFront b ≡ readProcesses k a b (length (frontBytes a))
 unfolding frontBytes opening withProcesses
-front-through a x k g room =
-    opening-next a x
+front-through a x b k e g room =
+    opening-next a x b e
     ∙ go BadArchitecture _ (opening-faultless a g)
-    ∙ ap (λ (n : ℕ). readProcesses n (opening a) (frontBytes a ++ x) 5) (sym room)
-    ∙ processes-through (frontBytes a ++ x) (a .processes) k (opening a) 5 x (next (0x41 ∷ 0x52 ∷ a .variables ∷ a .environment ∷ a .root ∷ []) _ (behind [] (frontBytes a ++ x))) g
-    ∙ ap (λ (n : ℕ). readProcesses k a (frontBytes a ++ x) n) (omega arith)
+    ∙ ap (λ (n : ℕ). readProcesses n (opening a) b 5) (sym room)
+    ∙ processes-through b (a .processes) k (opening a) 5 x (behind (0x41 ∷ 0x52 ∷ a .variables ∷ a .environment ∷ a .root ∷ []) (processesBytes (a .processes) ++ x) e) g
+    ∙ ap (λ (n : ℕ). readProcesses k a b n) (omega arith)

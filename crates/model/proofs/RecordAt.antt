@@ -20,8 +20,8 @@ pub record At (b : List ℕ) (i : ℕ) (x : List ℕ) : Type 0 where
   pub place : i ≡ length before
 
 -- the place behind w
-pub behind : (w x : List ℕ) → At (w ++ x) (length w) x
-behind w x = record { before = w; whole = refl; place = refl }
+pub behind : (w x : List ℕ) {b : List ℕ} → b ≡ w ++ x → At b (length w) x
+behind w x e = record { before = w; whole = e; place = refl }
 
 module _ {b : List ℕ} {i : ℕ} where
   -- the place behind the record r
