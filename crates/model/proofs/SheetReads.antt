@@ -26,7 +26,7 @@ unfolding readSheet _then_
 front-refused b r e = rw e
 
 module _ (b : List ℕ) (a : Architecture) (i : ℕ) (front : readFront b ≡ proper record { architecture = a; end = i }) where
-  pub behind-front : readSheet b ≡ (readAutomaton a b i then λ u. proper record { architecture = a; automaton = u })
+  behind-front : readSheet b ≡ (readAutomaton a b i then λ u. proper record { architecture = a; automaton = u })
   unfolding readSheet _then_
   behind-front = rw front
 
@@ -67,7 +67,7 @@ automaton-through b i k a u x h ga gu room =
 
 -- ---- all records, with room for k more edges
 -- the sheet with these edges behind its own
-unfoldable pub moreEdges : Sheet → List Edge → Sheet
+unfoldable moreEdges : Sheet → List Edge → Sheet
 unfolding withEdges
 moreEdges s es = record { architecture = s .architecture; automaton = withEdges (s .automaton) (s .automaton .edges ++ es) }
 
@@ -78,7 +78,7 @@ unfolding _then_ moreEdges
 gathered s (refused r) = refl
 gathered s (proper es) = refl
 
-pub records-through : (s : Sheet) (x b : List ℕ) (k : ℕ) → b ≡ recordsBytes s ++ x → ProperSheet s → length (s .automaton .edges) + k ≡ 64
+records-through : (s : Sheet) (x b : List ℕ) (k : ℕ) → b ≡ recordsBytes s ++ x → ProperSheet s → length (s .automaton .edges) + k ≡ 64
     → readSheet b ≡ (readEdges (s .architecture .variables) (s .automaton .states) k b (length (recordsBytes s)) then λ es. proper (moreEdges s es))
 unfolding recordsBytes automatonBytes statesBytes
 records-through s x b k e g room =
@@ -94,7 +94,7 @@ records-through s x b k e g room =
     ∙ ap (λ (n : ℕ). readEdges (a .variables) (u .states) k b n then λ es. proper (moreEdges s es)) (sym (length-append (frontBytes a) (automatonBytes u)))
 
 -- proper records, with no room or no mark for another ED
-pub records-done : (s : Sheet) (x b : List ℕ) → b ≡ recordsBytes s ++ x → ProperSheet s → (length (s .automaton .edges) ≡ 64) ⊎ (marked b (length (recordsBytes s)) ED ≡ false)
+records-done : (s : Sheet) (x b : List ℕ) → b ≡ recordsBytes s ++ x → ProperSheet s → (length (s .automaton .edges) ≡ 64) ⊎ (marked b (length (recordsBytes s)) ED ≡ false)
     → readSheet b ≡ (readEnd b (length (recordsBytes s)) then λ es. proper (moreEdges s es))
 unfolding readEdges
 records-done s x b e g (inl full) = records-through s x b 0 e g (omega arith)
@@ -103,6 +103,17 @@ records-done s x b e g (inr mark) =
     let k : ℕ = 64 - length (s .automaton .edges) in
     records-through s x b k e g (omega arith)
     ∙ ap (λ (m : Reading (List Edge)). m then λ es. proper (moreEdges s es)) (no-edge b (s .architecture .variables) (s .automaton .states) (length (recordsBytes s)) k mark)
+
+-- what is refused at the records behind these, refuses the sheet
+module _ (s : Sheet) (x b : List ℕ) (e : b ≡ recordsBytes s ++ x) (g : ProperSheet s) (r : Refusal) where
+  pub edges-refused : (k : ℕ) → length (s .automaton .edges) + k ≡ 64 → readEdges (s .architecture .variables) (s .automaton .states) k b (length (recordsBytes s)) ≡ refused r
+      → readSheet b ≡ refused r
+  unfolding _then_
+  edges-refused k room f = records-through s x b k e g room ∙ rw f
+
+  pub end-refused : (length (s .automaton .edges) ≡ 64) ⊎ (marked b (length (recordsBytes s)) ED ≡ false) → readEnd b (length (recordsBytes s)) ≡ refused r → readSheet b ≡ refused r
+  unfolding _then_
+  end-refused none f = records-done s x b e g none ∙ rw f
 
 -- ---- EN
 -- the last, with no byte after it

@@ -1,0 +1,74 @@
+-- A row that ends within a mark, or within the record of a mark that may stand there, is refused by 1: what stands before is read through.
+use mathlib.Core.Path.{_≡_, refl, ap, _∙_}
+use mathlib.Core.Bool.{true, false, not}
+use mathlib.Core.Logic.{inr}
+use mathlib.Core.List.{List, [], _∷_, _++_, append-assoc}
+use Prim.Native.Nat.{ℕ, suc, _+_, _-_, _≤_, _<_}
+use native.Mathlib.Omega.{arith}
+use lib.ListN.{length}
+use Rattle.model.specs.declared.Refusal.the-variants.{SheetTooShort, WrongMark}
+use Rattle.model.specs.Sheet.{Architecture, Edge, Sheet, ProperFront, ProperSheet}
+use Rattle.model.specs.Reading.{Reading, refused, proper, short, marked, AR, PR, AU, ED, readEnd, readAutomaton, readFront, readSheet, _then_}
+use Rattle.model.specs.SheetFile.{frontBytes, recordsBytes, Unfinished, in-first-mark, in-architecture, in-mark-behind-front, in-process, in-states, in-mark-behind-edges, in-edge}
+use Rattle.model.proofs.Refusing.{stop, go}
+use Rattle.model.proofs.RecordAt.{At, behind, too-short, long-enough, no-mark, marked-at}
+use Rattle.model.proofs.FrontReads.{process-short, front-through}
+use Rattle.model.proofs.AutomatonReads.{states-mark, edge-short}
+use Rattle.model.proofs.SheetReads.{front-refused, automaton-refused, front-done, edges-refused, end-refused}
+
+-- ---- in the front
+first-mark-short : (x : List ℕ) → length x < 2 → readFront x ≡ refused SheetTooShort
+unfolding readFront
+first-mark-short x l = stop SheetTooShort _ (too-short (behind [] x refl) 2 l)
+
+architecture-short : (x : List ℕ) → length x < 3 → readFront (AR ++ x) ≡ refused SheetTooShort
+unfolding readFront
+architecture-short x l =
+    let start : At (AR ++ x) 0 (AR ++ x) = behind [] (AR ++ x) refl in
+    let mark : marked (AR ++ x) 0 AR ≡ true = marked-at start AR in
+    go SheetTooShort _ (long-enough start 2 (omega arith)) ∙ go WrongMark _ (ap not mark) ∙ stop SheetTooShort _ (too-short start 5 (omega arith))
+
+process-unfinished : (a : Architecture) (x b : List ℕ) → b ≡ frontBytes a ++ (PR ++ x) → ProperFront a → length (a .processes) < 4 → length x < 3 → readFront b ≡ refused SheetTooShort
+process-unfinished a x b e g few l =
+    let here : At b (length (frontBytes a)) (PR ++ x) = behind (frontBytes a) (PR ++ x) e in
+    front-through a (PR ++ x) b (suc (3 - length (a .processes))) e g (omega arith)
+    ∙ process-short b (length (frontBytes a)) a (3 - length (a .processes)) (marked-at here PR) (too-short here 5 (omega arith))
+
+-- ---- behind it
+mark-short : (a : Architecture) (x b : List ℕ) → b ≡ frontBytes a ++ x → ProperFront a → length x < 2 → readSheet b ≡ refused SheetTooShort
+unfolding readAutomaton
+mark-short a x b e g l =
+    let here : At b (length (frontBytes a)) x = behind (frontBytes a) x e in
+    automaton-refused b a (length (frontBytes a)) (front-done a x b e g (inr (no-mark here l PR))) SheetTooShort (stop SheetTooShort _ (too-short here 2 l))
+
+states-short : (a : Architecture) (x b : List ℕ) → b ≡ frontBytes a ++ (AU ++ x) → ProperFront a → 1 ≤ length (a .processes) → length x < 4 → readSheet b ≡ refused SheetTooShort
+unfolding readAutomaton
+states-short a x b e g some l =
+    let i : ℕ = length (frontBytes a) in
+    let here : At b i (AU ++ x) = behind (frontBytes a) (AU ++ x) e in
+    automaton-refused b a i (front-done a (AU ++ x) b e g (inr (marked-at here PR))) SheetTooShort
+    (go SheetTooShort _ (long-enough here 2 (omega arith)) ∙ go WrongMark _ (states-mark b i a (marked-at here AU) some) ∙ stop SheetTooShort _ (too-short here 6 (omega arith)))
+
+-- ---- behind AU
+end-short : (s : Sheet) (x b : List ℕ) → b ≡ recordsBytes s ++ x → ProperSheet s → length x < 2 → readSheet b ≡ refused SheetTooShort
+unfolding readEnd _then_
+end-short s x b e g l =
+    let here : At b (length (recordsBytes s)) x = behind (recordsBytes s) x e in
+    end-refused s x b e g SheetTooShort (inr (no-mark here l ED)) (stop SheetTooShort _ (too-short here 2 l))
+
+edge-unfinished : (s : Sheet) (x b : List ℕ) → b ≡ recordsBytes s ++ (ED ++ x) → ProperSheet s → length (s .automaton .edges) < 64 → length x < 4 → readSheet b ≡ refused SheetTooShort
+edge-unfinished s x b e g few l =
+    let here : At b (length (recordsBytes s)) (ED ++ x) = behind (recordsBytes s) (ED ++ x) e in
+    let k : ℕ = 63 - length (s .automaton .edges) in
+    edges-refused s (ED ++ x) b e g SheetTooShort (suc k) (omega arith)
+    (edge-short b (s .architecture .variables) (s .automaton .states) (length (recordsBytes s)) k (marked-at here ED) (too-short here 6 (omega arith)))
+
+pub unfinished-refused : (b : List ℕ) → Unfinished b → readSheet b ≡ refused SheetTooShort
+unfinished-refused b (in-first-mark x l) = front-refused x SheetTooShort (first-mark-short x l)
+unfinished-refused b (in-architecture x l) = front-refused (AR ++ x) SheetTooShort (architecture-short x l)
+unfinished-refused b (in-mark-behind-front a x g l) = mark-short a x (frontBytes a ++ x) refl g l
+unfinished-refused b (in-process a x g few l) =
+    front-refused (frontBytes a ++ PR ++ x) SheetTooShort (process-unfinished a x (frontBytes a ++ PR ++ x) (append-assoc (frontBytes a) PR x) g few l)
+unfinished-refused b (in-states a x g some l) = states-short a x (frontBytes a ++ AU ++ x) (append-assoc (frontBytes a) AU x) g some l
+unfinished-refused b (in-mark-behind-edges s x g l) = end-short s x (recordsBytes s ++ x) refl g l
+unfinished-refused b (in-edge s x g few l) = edge-unfinished s x (recordsBytes s ++ ED ++ x) (append-assoc (recordsBytes s) ED x) g few l
