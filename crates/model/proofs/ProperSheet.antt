@@ -109,7 +109,7 @@ opening-proper a none f =
     }
 
 -- ---- one process more
-apart-sym : (m n : ℕ) → Apart m n → Apart n m
+pub apart-sym : (m n : ℕ) → Apart m n → Apart n m
 unfolding share
 apart-sym m n e = rw (and-comm n m) e
 
