@@ -9,7 +9,7 @@ use lib.ListN.{length, length-append}
 use lib.Arith.{digits-div, digits-mod}
 use Rattle.model.specs.Sheet.{Process, Architecture, Edge, Automaton, Sheet, withProcess, withEdge, ProperEdge, ProperAutomaton}
 use Rattle.model.specs.Reading.{edFault}
-use Rattle.model.specs.SheetFile.{processBytes, edgeBytes, statesBytes, processesBytes, edgesBytes, frontBytes, automatonBytes}
+use Rattle.model.specs.SheetFile.{processBytes, edgeBytes, statesBytes, processesBytes, edgesBytes, frontBytes, automatonBytes, recordsBytes}
 use Rattle.model.proofs.ProperSheet.{edge-proper}
 
 -- ---- the processes
@@ -33,14 +33,20 @@ unfolding edgesBytes
 edges-more [] e = append-nil (edgeBytes e)
 edges-more (f ∷ es) e = ap (λ (x : List ℕ). edgeBytes f ++ x) (edges-more es e) ∙ sym (append-assoc (edgeBytes f) (edgesBytes es) (edgeBytes e))
 
-pub automaton-more : (u : Automaton) (e : Edge) → automatonBytes (withEdge u e) ≡ automatonBytes u ++ edgeBytes e
+automaton-more : (u : Automaton) (e : Edge) → automatonBytes (withEdge u e) ≡ automatonBytes u ++ edgeBytes e
 unfolding automatonBytes statesBytes withEdge
 automaton-more u e = rw edges-more
 
--- AU alone
-pub automaton-alone : (u : Automaton) → u .edges ≡ [] → automatonBytes u ≡ statesBytes u
-unfolding automatonBytes edgesBytes
-automaton-alone u none = rw none (append-nil (statesBytes u))
+-- all records
+pub records-more : (a : Architecture) (u : Automaton) (e : Edge)
+    → recordsBytes record { architecture = a; automaton = withEdge u e } ≡ recordsBytes record { architecture = a; automaton = u } ++ edgeBytes e
+unfolding recordsBytes
+records-more a u e = rw (automaton-more u e, append-assoc (frontBytes a) (automatonBytes u) (edgeBytes e))
+
+-- AU alone behind the front
+pub records-alone : (a : Architecture) (u : Automaton) → u .edges ≡ [] → recordsBytes record { architecture = a; automaton = u } ≡ frontBytes a ++ statesBytes u
+unfolding recordsBytes automatonBytes edgesBytes
+records-alone a u none = rw (none, append-nil (statesBytes u))
 
 -- the two bytes of the rejecting mask, low byte first
 pub low-byte : (low high : ℕ) → low < 256 → (low + 256 * high) % 256 ≡ low
