@@ -12,7 +12,7 @@ use borrow.Author.Tests.{ltb-true, ltb-false, not-true, not-false}
 use Rattle.model.specs.declared.Refusal.the-variants.{SheetTooShort, WrongMark, BadEdge}
 use Rattle.model.specs.Sheet.{Architecture, Edge, Automaton, Sheet, withEdge, ProperArchitecture, ProperAutomaton, ProperSheet}
 use Rattle.model.specs.Reading.{Reading, proper, byte, short, marked, ED, EN, edFault, edgeAt, readEnd, readEdge, readEdges}
-use Rattle.model.specs.SheetFile.{edgeBytes, recordsBytes, sheetBytes, FollowsEdges}
+use Rattle.model.specs.SheetFile.{edgeBytes, recordsBytes, sheetBytes}
 use Rattle.model.specs.SheetFile.{in-mark-behind-edges, in-edge, wrong-mark-behind-edges, bad-edge, byte-behind-end}
 use Rattle.model.proofs.FaultsExact.{edge-faultless}
 use Rattle.model.proofs.BytesRead.{row-longer, drop-byte, drop-mark, drop-four, left-short, is-whole, markAt, mark-stands, mark-differs}

@@ -9,7 +9,7 @@ use lib.ListN.{length, length-append, drop}
 use borrow.Author.Tests.{not-true, not-false}
 use Rattle.model.specs.declared.Refusal.the-variants.{SheetTooShort, WrongMark, BadArchitecture, BadProcess}
 use Rattle.model.specs.Sheet.{Process, Architecture, withProcess, ProperFront}
-use Rattle.model.specs.Reading.{Reading, byte, short, marked, AR, PR, arFault, prFault, architectureAt, processAt, Front, readProcess, readProcesses, readFront}
+use Rattle.model.specs.Reading.{Reading, short, marked, AR, PR, arFault, prFault, architectureAt, processAt, Front, readProcess, readProcesses, readFront}
 use Rattle.model.specs.SheetFile.{processBytes, frontBytes, in-first-mark, in-architecture, in-process, wrong-first-mark, bad-architecture, bad-process}
 use Rattle.model.proofs.ProperSheet.{opening-proper, process-more}
 use Rattle.model.proofs.FaultsExact.{opening-faultless, process-faultless}

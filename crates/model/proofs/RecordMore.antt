@@ -1,13 +1,13 @@
 -- One record more: the writing of it stands behind that of the records before it, and a proper edge leaves an automaton proper.
-use mathlib.Core.Path.{_≡_, refl, sym, ap, _∙_, subst}
+use mathlib.Core.Path.{_≡_, sym, ap, _∙_, subst}
 use mathlib.Core.Logic.{⊎-elim}
 use mathlib.Core.Bool.{false}
-use mathlib.Core.List.{List, [], _∷_, _++_, append-assoc, append-nil, List·Memᴰ, List·Memᴰ·eq-of-singleton, List·Memᴰ·append-cases}
+use mathlib.Core.List.{List, [], _∷_, _++_, append-assoc, append-nil, List·Memᴰ·eq-of-singleton, List·Memᴰ·append-cases}
 use Prim.Native.Nat.{ℕ, _+_, _*_, _/_, _%_, _<_}
 use native.Mathlib.Omega.{arith}
 use lib.ListN.{length, length-append}
 use lib.Arith.{digits-div, digits-mod}
-use Rattle.model.specs.Sheet.{Process, Architecture, Edge, Automaton, Sheet, withProcess, withEdge, ProperEdge, ProperAutomaton}
+use Rattle.model.specs.Sheet.{Process, Architecture, Edge, Automaton, withProcess, withEdge, ProperEdge, ProperAutomaton}
 use Rattle.model.specs.Reading.{edFault}
 use Rattle.model.specs.SheetFile.{processBytes, edgeBytes, statesBytes, processesBytes, edgesBytes, frontBytes, automatonBytes, recordsBytes}
 use Rattle.model.proofs.ProperSheet.{edge-proper}
