@@ -36,7 +36,7 @@ unfolding if
 if-cases true x y e = inl e
 if-cases false x y e = inr e
 
-or-false : (a b : Bool) → (a || b) ≡ false → (a ≡ false) × (b ≡ false)
+pub or-false : (a b : Bool) → (a || b) ≡ false → (a ≡ false) × (b ≡ false)
 or-false true b e = absurd (true≢false e)
 or-false false b e = (refl, e)
 
@@ -48,7 +48,7 @@ same-proper : {A : Type 0} (x y : A) → proper x ≡ proper y → x ≡ y
 same-proper x y e = cc
 
 -- ---- the fields of a record without fault
-edge-proper : (variables states : ℕ) (e : Edge) → edFault variables states e ≡ false → ProperEdge variables states e
+pub edge-proper : (variables states : ℕ) (e : Edge) → edFault variables states e ≡ false → ProperEdge variables states e
 unfolding edFault
 edge-proper variables states e f =
     let h₁ = or-false _ _ f in
@@ -207,7 +207,7 @@ module _ (variables states : ℕ) where
           (subst (ProperEdges variables states) same (edges-more (edge-proper variables states (edgeAt b i) (h₂ .0)) (rest .0)), omega (arith, rest .1, ap length same), omega arith)
 
 -- at AU the front is seen to be an architecture
-front-whole : (a : Architecture) → ProperFront a → eqb (length (a .processes)) 0 ≡ false → allFault a ≡ false → ProperArchitecture a
+pub front-whole : (a : Architecture) → ProperFront a → eqb (length (a .processes)) 0 ≡ false → allFault a ≡ false → ProperArchitecture a
 unfolding allFault
 front-whole a g some f =
     let own : Bool = all (owned (a .processes)) (from (a .variables - a .environment) (a .environment)) in
