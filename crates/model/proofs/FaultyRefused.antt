@@ -1,0 +1,185 @@
+-- A row that begins with its records up to the first faulty one is refused by that record's number, whatever follows: what stands before is read through.
+use mathlib.Core.Path.{_≡_, refl, sym, ap, _∙_, subst}
+use mathlib.Core.Bool.{Bool, true, false, _&&_, _||_, not, or-true}
+use mathlib.Core.Logic.{_⊎_, inl, inr, ⊎-elim}
+use mathlib.Core.List.{List, [], _∷_, _++_, append-assoc, List·Memᴰ·not-nil, List·Memᴰ·eq-of-singleton, List·Memᴰ·append-cases}
+use Prim.Native.Nat.{ℕ, suc, _+_, _-_, _≤_, _<_}
+use native.Mathlib.Omega.{arith}
+use native.Mathlib.Decide.{decLe}
+use lib.Dec.{eqb, ltb}
+use lib.ListN.{length, length-append}
+use borrow.Author.Tests.{eqb-true, eq-eqb, ne-eqb, lt-ltb}
+use Rattle.theory.proofs.Bools.{and-is}
+use Rattle.model.specs.declared.Refusal.{Refusal}
+use Rattle.model.specs.declared.Refusal.the-variants.{SheetTooShort, WrongMark, BadArchitecture, BadProcess, NoOwnerOrTooMany, BadAutomaton, BadEdge}
+use Rattle.model.specs.Sheet.{Process, Architecture, Edge, Automaton, Sheet, withProcess, withEdge, ProperFront, ProperArchitecture, ProperEdge, ProperAutomaton, ProperSheet}
+use Rattle.model.specs.Reading.{Reading, refused, proper, byte, short, marked, AR, PR, AU, ED, EN, arFault, prFault, allFault, auFault, edFault}
+use Rattle.model.specs.Reading.{readEnd, readEdges, readAutomaton, readProcesses, readFront, readSheet, refuse_when_else_, _then_}
+use Rattle.model.specs.SheetFile.{processBytes, edgeBytes, statesBytes, frontBytes, recordsBytes, sheetBytes, FollowsFront, FollowsEdges}
+use Rattle.model.specs.SheetFile.{Faulty, wrong-first-mark, bad-architecture, wrong-mark-behind-front, bad-process, no-owner-or-too-many, bad-automaton}
+use Rattle.model.specs.SheetFile.{wrong-mark-behind-edges, bad-edge, byte-behind-end}
+use Rattle.model.proofs.Refusing.{stop, go}
+use Rattle.model.proofs.ProperSheet.{states-proper, opening-proper, process-more, front-whole}
+use Rattle.model.proofs.RecordMore.{edge-more}
+use Rattle.model.proofs.FaultsExact.{front-faultless}
+use Rattle.model.proofs.RecordAt.{At, behind, length-at, long-enough, marked-at}
+use Rattle.model.proofs.FrontReads.{process-next, opening, opening-next, front-through}
+use Rattle.model.proofs.AutomatonReads.{states-next, edge-next}
+use Rattle.model.proofs.SheetReads.{front-refused, automaton-refused, front-done, edges-refused, end-refused}
+
+-- ---- what is not proper has a fault
+-- a test that, failed, would prove what is not
+passed : {P : Type 0} (t : Bool) → (t ≡ false → P) → ¬ P → t ≡ true
+passed true f n = refl
+passed false f n = absurd (n (f refl))
+
+-- an automaton's states without fault, before its edges
+states-alone : (variables : ℕ) (u : Automaton) → u .edges ≡ [] → auFault (u .states) (u .initial) (u .rejecting) ≡ false → ProperAutomaton variables u
+states-alone variables u none f =
+    let h = states-proper (u .states) (u .initial) (u .rejecting) f in
+    record {
+      some-states = h .0;
+      few-states = h .1;
+      initial-known = h .2;
+      rejecting-known = h .3;
+      few-edges = omega (arith, ap length none);
+      edges-proper = rw none (λ e m. absurd (List·Memᴰ·not-nil m));
+    }
+
+-- ---- a mark of two bytes that is another one
+other-mark : {y z v w : ℕ} → ¬ (y ∷ z ∷ [] ≡ v ∷ w ∷ []) → (eqb y v && eqb z w) ≡ false
+other-mark {y} {z} {v} {w} n = by (eqb y v && eqb z w) refl
+  where
+    by : (t : Bool) → (eqb y v && eqb z w) ≡ t → (eqb y v && eqb z w) ≡ false
+    by false e = e
+    by true e =
+        let h = and-is (eqb y v) (eqb z w) .0 e in
+        let first : y ≡ v = eqb-true y v (h .0) in
+        let second : z ≡ w = eqb-true z w (h .1) in
+        absurd (n (rw (first, second)))
+
+-- ---- a wrong mark
+first-mark-wrong : (m x b : List ℕ) → b ≡ m ++ x → length m ≡ 2 → ¬ (m ≡ AR) → readFront b ≡ refused WrongMark
+unfolding readFront
+first-mark-wrong [] x b e l n = absurd (omega arith)
+first-mark-wrong (y ∷ []) x b e l n = absurd (omega arith)
+first-mark-wrong (y ∷ z ∷ w ∷ ws) x b e l n = absurd (omega arith)
+first-mark-wrong (y ∷ z ∷ []) x b e l n =
+    let start : At b 0 (y ∷ z ∷ x) = behind [] (y ∷ z ∷ x) e in
+    go SheetTooShort _ (long-enough start 2 (omega arith)) ∙ stop WrongMark _ (ap not (marked-at start AR ∙ other-mark n))
+
+mark-wrong : (a : Architecture) (m x b : List ℕ) → b ≡ frontBytes a ++ (m ++ x) → ProperFront a → length m ≡ 2 → ¬ FollowsFront a m → readSheet b ≡ refused WrongMark
+unfolding readAutomaton
+mark-wrong a [] x b e g l n = absurd (omega arith)
+mark-wrong a (y ∷ []) x b e g l n = absurd (omega arith)
+mark-wrong a (y ∷ z ∷ w ∷ ws) x b e g l n = absurd (omega arith)
+mark-wrong a (y ∷ z ∷ []) x b e g l n =
+    automaton-refused b a i (front-done a (y ∷ z ∷ x) b e g (room (decLe 4 (length (a .processes))))) WrongMark
+    (go SheetTooShort _ (long-enough here 2 (omega arith)) ∙ stop WrongMark _ (mark (decLe 1 (length (a .processes)))))
+  where
+    i : ℕ
+    i = length (frontBytes a)
+
+    here : At b i (y ∷ z ∷ x)
+    here = behind (frontBytes a) (y ∷ z ∷ x) e
+
+    -- no PR may stand there
+    room : Dec (4 ≤ length (a .processes)) → (length (a .processes) ≡ 4) ⊎ (marked b i PR ≡ false)
+    room (yes h) = let few : length (a .processes) ≤ 4 = g .few-processes in inl (omega arith)
+    room (no h) = inr (marked-at here PR ∙ other-mark (λ q. n (inl (q, omega arith))))
+
+    -- and no AU
+    mark : Dec (1 ≤ length (a .processes)) → (not (marked b i AU) || eqb (length (a .processes)) 0) ≡ true
+    mark (yes h) = ap (λ (t : Bool). not t || eqb (length (a .processes)) 0) (marked-at here AU ∙ other-mark (λ q. n (inr (q, h))))
+    mark (no h) = ap (λ (t : Bool). not (marked b i AU) || t) (eq-eqb (length (a .processes)) 0 (omega arith)) ∙ or-true (not (marked b i AU))
+
+mark-wrong-behind-edges : (s : Sheet) (m x b : List ℕ) → b ≡ recordsBytes s ++ (m ++ x) → ProperSheet s → length m ≡ 2 → ¬ FollowsEdges (s .automaton) m → readSheet b ≡ refused WrongMark
+unfolding readEnd
+mark-wrong-behind-edges s [] x b e g l n = absurd (omega arith)
+mark-wrong-behind-edges s (y ∷ []) x b e g l n = absurd (omega arith)
+mark-wrong-behind-edges s (y ∷ z ∷ w ∷ ws) x b e g l n = absurd (omega arith)
+mark-wrong-behind-edges s (y ∷ z ∷ []) x b e g l n =
+    end-refused s (y ∷ z ∷ x) b e g WrongMark (room (decLe 64 (length (s .automaton .edges))))
+    (go SheetTooShort _ (long-enough here 2 (omega arith)) ∙ stop WrongMark _ (ap not (marked-at here EN ∙ other-mark (λ q. n (inr q)))))
+  where
+    here : At b (length (recordsBytes s)) (y ∷ z ∷ x)
+    here = behind (recordsBytes s) (y ∷ z ∷ x) e
+
+    -- no ED may stand there
+    room : Dec (64 ≤ length (s .automaton .edges)) → (length (s .automaton .edges) ≡ 64) ⊎ (marked b (length (recordsBytes s)) ED ≡ false)
+    room (yes h) = let few : length (s .automaton .edges) ≤ 64 = g .automaton .few-edges in inl (omega arith)
+    room (no h) = inr (marked-at here ED ∙ other-mark (λ q. n (inl (q, omega arith))))
+
+-- a byte behind EN
+end-goes-on : (s : Sheet) (y : ℕ) (x b : List ℕ) → b ≡ recordsBytes s ++ (EN ++ (y ∷ x)) → ProperSheet s → readSheet b ≡ refused WrongMark
+unfolding readEnd
+end-goes-on s y x b e g =
+    let i : ℕ = length (recordsBytes s) in
+    let here : At b i (EN ++ (y ∷ x)) = behind (recordsBytes s) (EN ++ (y ∷ x)) e in
+    let mark : marked b i EN ≡ true = marked-at here EN in
+    end-refused s (EN ++ (y ∷ x)) b e g WrongMark (inr (marked-at here ED))
+    (go SheetTooShort _ (long-enough here 2 (omega arith)) ∙ go WrongMark _ (ap not mark) ∙ stop WrongMark _ (lt-ltb (i + 2) (length b) (omega (arith, length-at here))))
+
+-- ---- a faulty record
+architecture-bad : (a : Architecture) (x b : List ℕ) → b ≡ frontBytes a ++ x → a .processes ≡ [] → ¬ ProperFront a → readFront b ≡ refused BadArchitecture
+architecture-bad a x b e none n = opening-next a x b e ∙ stop BadArchitecture _ (passed (arFault a) (opening-proper a none) n)
+
+process-bad : (a : Architecture) (p : Process) (x b : List ℕ) → b ≡ frontBytes a ++ (processBytes p ++ x) → ProperFront a → length (a .processes) < 4 → ¬ ProperFront (withProcess a p)
+    → readFront b ≡ refused BadProcess
+process-bad a p x b e g few n =
+    let i : ℕ = length (frontBytes a) in
+    front-through a (processBytes p ++ x) b (suc (3 - length (a .processes))) e g (omega arith)
+    ∙ process-next b i a (3 - length (a .processes)) p x (behind (frontBytes a) (processBytes p ++ x) e)
+    ∙ stop BadProcess _ (passed (prFault a p) (process-more a p g few) n)
+
+-- AU behind a proper front is reached
+module _ (a : Architecture) (u : Automaton) (x b : List ℕ) (e : b ≡ frontBytes a ++ (statesBytes u ++ x)) (g : ProperFront a) where
+  states-there : At b (length (frontBytes a)) (statesBytes u ++ x)
+  states-there = behind (frontBytes a) (statesBytes u ++ x) e
+
+  states-reached : (r : Refusal) → readAutomaton a b (length (frontBytes a)) ≡ refused r → readSheet b ≡ refused r
+  unfolding statesBytes
+  states-reached r f = automaton-refused b a (length (frontBytes a)) (front-done a (statesBytes u ++ x) b e g (inr (marked-at states-there PR))) r f
+
+  owner-missing : 1 ≤ length (a .processes) → ¬ ProperArchitecture a → readSheet b ≡ refused NoOwnerOrTooMany
+  owner-missing some n =
+      let several : eqb (length (a .processes)) 0 ≡ false = ne-eqb (length (a .processes)) 0 (λ z. omega arith) in
+      states-reached NoOwnerOrTooMany
+      (states-next b (length (frontBytes a)) a u x states-there some ∙ stop NoOwnerOrTooMany _ (passed (allFault a) (front-whole a g several) n))
+
+  automaton-bad : ProperArchitecture a → u .edges ≡ [] → ¬ ProperAutomaton (a .variables) u → readSheet b ≡ refused BadAutomaton
+  automaton-bad h none n =
+      states-reached BadAutomaton
+      (states-next b (length (frontBytes a)) a u x states-there (h .some-process)
+      ∙ go NoOwnerOrTooMany _ (front-faultless a h)
+      ∙ stop BadAutomaton _ (passed (auFault (u .states) (u .initial) (u .rejecting)) (states-alone (a .variables) u none) n))
+
+edge-bad : (s : Sheet) (q : Edge) (x b : List ℕ) → b ≡ recordsBytes s ++ (edgeBytes q ++ x) → ProperSheet s → length (s .automaton .edges) < 64
+    → ¬ ProperAutomaton (s .architecture .variables) (withEdge (s .automaton) q) → readSheet b ≡ refused BadEdge
+edge-bad s q x b e g few n =
+    let k : ℕ = 63 - length (s .automaton .edges) in
+    let variables : ℕ = s .architecture .variables in
+    let states : ℕ = s .automaton .states in
+    edges-refused s (edgeBytes q ++ x) b e g BadEdge (suc k) (omega arith)
+    (edge-next b variables states (length (recordsBytes s)) k q x (behind (recordsBytes s) (edgeBytes q ++ x) e)
+    ∙ stop BadEdge _ (passed (edFault variables states q) (edge-more variables (s .automaton) q (g .automaton) few) n))
+
+-- ---- whatever follows
+pub faulty-refused : (p rest : List ℕ) (r : Refusal) → Faulty p r → readSheet (p ++ rest) ≡ refused r
+unfolding sheetBytes
+faulty-refused p rest r (wrong-first-mark m l n) = front-refused (m ++ rest) WrongMark (first-mark-wrong m rest (m ++ rest) refl l n)
+faulty-refused p rest r (bad-architecture a none n) = front-refused (frontBytes a ++ rest) BadArchitecture (architecture-bad a rest (frontBytes a ++ rest) refl none n)
+faulty-refused p rest r (wrong-mark-behind-front a m g l n) = mark-wrong a m rest (frontBytes a ++ m ++ rest) (append-assoc (frontBytes a) m rest) g l n
+faulty-refused p rest r (bad-process a q g few n) =
+    front-refused (frontBytes a ++ processBytes q ++ rest) BadProcess
+    (process-bad a q rest (frontBytes a ++ processBytes q ++ rest) (append-assoc (frontBytes a) (processBytes q) rest) g few n)
+faulty-refused p rest r (no-owner-or-too-many a u g some n) =
+    owner-missing a u rest (frontBytes a ++ statesBytes u ++ rest) (append-assoc (frontBytes a) (statesBytes u) rest) g some n
+faulty-refused p rest r (bad-automaton a u g none n) =
+    automaton-bad a u rest (frontBytes a ++ statesBytes u ++ rest) (append-assoc (frontBytes a) (statesBytes u) rest) (g .front) g none n
+faulty-refused p rest r (wrong-mark-behind-edges s m g l n) =
+    mark-wrong-behind-edges s m rest (recordsBytes s ++ m ++ rest) (append-assoc (recordsBytes s) m rest) g l n
+faulty-refused p rest r (bad-edge s q g few n) = edge-bad s q rest (recordsBytes s ++ edgeBytes q ++ rest) (append-assoc (recordsBytes s) (edgeBytes q) rest) g few n
+faulty-refused p rest r (byte-behind-end s y g) =
+    end-goes-on s y rest (recordsBytes s ++ EN ++ (y ∷ []) ++ rest)
+    (append-assoc (recordsBytes s ++ EN) (y ∷ []) rest ∙ append-assoc (recordsBytes s) EN (y ∷ rest)) g
