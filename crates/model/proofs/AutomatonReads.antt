@@ -1,14 +1,13 @@
 -- Behind a front, reading goes through AU and the ED of a proper automaton, and stops at the first record that is none.
-use mathlib.Core.Path.{_≡_, refl, sym, ap, ap₂, _∙_}
+use mathlib.Core.Path.{_≡_, refl, ap, ap₂, _∙_}
 use mathlib.Core.Bool.{true, false, not, _||_}
 use mathlib.Core.List.{List, [], _∷_, _++_, List·Memᴰ·head, List·Memᴰ·tail}
-use Prim.Native.Nat.{ℕ, zero, suc, _+_, _*_, _≤_, _<_}
+use Prim.Native.Nat.{ℕ, zero, suc, _+_, _*_, _≤_}
 use native.Mathlib.Nat.{zero-add, add-zero, suc-add, mod-add-div}
 use native.Mathlib.Omega.{arith}
 use lib.Dec.{eqb}
 use lib.ListN.{length}
 use borrow.Author.Tests.{ne-eqb}
-use Rattle.model.specs.declared.Refusal.{Refusal}
 use Rattle.model.specs.declared.Refusal.the-variants.{SheetTooShort, WrongMark, NoOwnerOrTooMany, BadAutomaton, BadEdge}
 use Rattle.model.specs.Mask.{if}
 use Rattle.model.specs.Sheet.{Architecture, Edge, Automaton, ProperEdges}
@@ -41,7 +40,7 @@ module _ (b : List ℕ) where
       let six : short b i 6 ≡ false = long-enough h 6 (omega arith) in
       let states : byte b (i + 2) ≡ u .states = byte-at h 2 in
       let initial : byte b (i + 3) ≡ u .initial = byte-at h 3 in
-      let rejecting : byte b (i + 4) + 256 * byte b (i + 5) ≡ u .rejecting = ap₂ (λ (l h : ℕ). l + 256 * h) (byte-at h 4) (byte-at h 5) ∙ mod-add-div (u .rejecting) 256 in
+      let rejecting : byte b (i + 4) + 256 * byte b (i + 5) ≡ u .rejecting = ap₂ (λ (low high : ℕ). low + 256 * high) (byte-at h 4) (byte-at h 5) ∙ mod-add-div (u .rejecting) 256 in
       go SheetTooShort _ two
       ∙ go WrongMark _ (states-mark i a (marked-at h AU) some)
       ∙ go SheetTooShort _ six
@@ -73,17 +72,20 @@ module _ (b : List ℕ) where
     no-edge i zero mark = refl
     no-edge i (suc k) mark = rw mark
 
-    -- ---- proper edges, with room for k more
+    -- ---- proper edges
+    -- edges in front of those that are read
     front-edge : (e : Edge) (es : List Edge) (m : Reading (List Edge)) → ((m then λ rs. proper (es ++ rs)) then λ rs. proper (e ∷ rs)) ≡ (m then λ rs. proper (e ∷ es ++ rs))
     unfolding _then_
     front-edge e es (refused r) = refl
     front-edge e es (proper rs) = refl
 
+    -- and none in front
     nothing-more : (m : Reading (List Edge)) → m ≡ (m then λ rs. proper rs)
     unfolding _then_
     nothing-more (refused r) = refl
     nothing-more (proper rs) = refl
 
+    -- all of them, with room for k more
     pub edges-through : (es : List Edge) (i k : ℕ) (x : List ℕ) → At b i (edgesBytes es ++ x) → ProperEdges variables states es
         → readEdges variables states (length es + k) b i ≡ (readEdges variables states k b (i + length (edgesBytes es)) then λ rs. proper (es ++ rs))
     unfolding edgesBytes edgeBytes

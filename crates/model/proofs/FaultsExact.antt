@@ -7,7 +7,7 @@ use native.Mathlib.Omega.{arith}
 use borrow.Author.Tests.{le-ltb, lt-leb, ne-eqb}
 use Rattle.theory.specs.Lists.{Pairwise, before, all, from}
 use Rattle.theory.proofs.ListLaws.{all-is, from-least}
-use Rattle.model.specs.Mask.{share, beyond, count}
+use Rattle.model.specs.Mask.{beyond, count}
 use Rattle.model.specs.Sheet.{Process, Architecture, Edge, Automaton, withProcess, withEdge, owned, composedStates, Apart}
 use Rattle.model.specs.Sheet.{ProperProcess, ProperFront, ProperArchitecture, ProperEdge, ProperAutomaton}
 use Rattle.model.specs.Reading.{arFault, taken, fieldFault, prFault, allFault, auFault, edFault}

@@ -1,29 +1,29 @@
 -- A row that begins with its records up to the first faulty one is refused by that record's number, whatever follows: what stands before is read through.
-use mathlib.Core.Path.{_≡_, refl, sym, ap, _∙_, subst}
+use mathlib.Core.Path.{_≡_, refl, ap, _∙_}
 use mathlib.Core.Bool.{Bool, true, false, _&&_, _||_, not, or-true}
-use mathlib.Core.Logic.{_⊎_, inl, inr, ⊎-elim}
-use mathlib.Core.List.{List, [], _∷_, _++_, append-assoc, List·Memᴰ·not-nil, List·Memᴰ·eq-of-singleton, List·Memᴰ·append-cases}
+use mathlib.Core.Logic.{_⊎_, inl, inr}
+use mathlib.Core.List.{List, [], _∷_, _++_, append-assoc, List·Memᴰ·not-nil}
 use Prim.Native.Nat.{ℕ, suc, _+_, _-_, _≤_, _<_}
 use native.Mathlib.Omega.{arith}
 use native.Mathlib.Decide.{decLe}
-use lib.Dec.{eqb, ltb}
-use lib.ListN.{length, length-append}
+use lib.Dec.{eqb}
+use lib.ListN.{length}
 use borrow.Author.Tests.{eqb-true, eq-eqb, ne-eqb, lt-ltb}
 use Rattle.theory.proofs.Bools.{and-is}
 use Rattle.model.specs.declared.Refusal.{Refusal}
 use Rattle.model.specs.declared.Refusal.the-variants.{SheetTooShort, WrongMark, BadArchitecture, BadProcess, NoOwnerOrTooMany, BadAutomaton, BadEdge}
-use Rattle.model.specs.Sheet.{Process, Architecture, Edge, Automaton, Sheet, withProcess, withEdge, ProperFront, ProperArchitecture, ProperEdge, ProperAutomaton, ProperSheet}
-use Rattle.model.specs.Reading.{Reading, refused, proper, byte, short, marked, AR, PR, AU, ED, EN, arFault, prFault, allFault, auFault, edFault}
-use Rattle.model.specs.Reading.{readEnd, readEdges, readAutomaton, readProcesses, readFront, readSheet, refuse_when_else_, _then_}
+use Rattle.model.specs.Sheet.{Process, Architecture, Edge, Automaton, Sheet, withProcess, withEdge, ProperFront, ProperArchitecture, ProperAutomaton, ProperSheet}
+use Rattle.model.specs.Reading.{refused, marked, AR, PR, AU, ED, EN, arFault, prFault, allFault, auFault, edFault}
+use Rattle.model.specs.Reading.{readEnd, readAutomaton, readFront, readSheet}
 use Rattle.model.specs.SheetFile.{processBytes, edgeBytes, statesBytes, frontBytes, recordsBytes, sheetBytes, FollowsFront, FollowsEdges}
 use Rattle.model.specs.SheetFile.{Faulty, wrong-first-mark, bad-architecture, wrong-mark-behind-front, bad-process, no-owner-or-too-many, bad-automaton}
-use Rattle.model.specs.SheetFile.{wrong-mark-behind-edges, bad-edge, byte-behind-end}
+use Rattle.model.specs.SheetFile.{wrong-mark-behind-edges, bad-edge, byte-behind-end, BeginsFaulty}
 use Rattle.model.proofs.Refusing.{stop, go}
 use Rattle.model.proofs.ProperSheet.{states-proper, opening-proper, process-more, front-whole}
 use Rattle.model.proofs.RecordMore.{edge-more}
 use Rattle.model.proofs.FaultsExact.{front-faultless}
 use Rattle.model.proofs.RecordAt.{At, behind, length-at, long-enough, marked-at}
-use Rattle.model.proofs.FrontReads.{process-next, opening, opening-next, front-through}
+use Rattle.model.proofs.FrontReads.{process-next, opening-next, front-through}
 use Rattle.model.proofs.AutomatonReads.{states-next, edge-next}
 use Rattle.model.proofs.SheetReads.{front-refused, automaton-refused, front-done, edges-refused, end-refused}
 
@@ -183,3 +183,6 @@ faulty-refused p rest r (bad-edge s q g few n) = edge-bad s q rest (recordsBytes
 faulty-refused p rest r (byte-behind-end s y g) =
     end-goes-on s y rest (recordsBytes s ++ EN ++ (y ∷ []) ++ rest)
     (append-assoc (recordsBytes s ++ EN) (y ∷ []) rest ∙ append-assoc (recordsBytes s) EN (y ∷ rest)) g
+
+pub begins-faulty-refused : (b : List ℕ) (r : Refusal) → BeginsFaulty b r → readSheet b ≡ refused r
+begins-faulty-refused b r f = ap readSheet (f .whole) ∙ faulty-refused (f .faulty) (f .rest) r (f .fault)

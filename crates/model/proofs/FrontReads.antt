@@ -2,21 +2,20 @@
 use mathlib.Core.Path.{_≡_, refl, sym, ap, ap₂, _∙_}
 use mathlib.Core.Bool.{true, false, not}
 use mathlib.Core.List.{List, [], _∷_, _++_, append-nil, append-assoc, Memᴰ·append-left}
-use Prim.Native.Nat.{ℕ, zero, suc, _+_, _≤_, _<_}
+use Prim.Native.Nat.{ℕ, zero, suc, _+_}
 use native.Mathlib.Nat.{zero-add, add-zero, suc-add}
 use native.Mathlib.Omega.{arith}
 use lib.ListN.{length, length-append}
 use Rattle.theory.specs.Lists.{Pairwise, empty, before}
-use Rattle.model.specs.declared.Refusal.{Refusal}
 use Rattle.model.specs.declared.Refusal.the-variants.{SheetTooShort, WrongMark, BadArchitecture, BadProcess}
 use Rattle.model.specs.Mask.{if}
 use Rattle.model.specs.Sheet.{Process, Architecture, withProcess, ProperFront}
-use Rattle.model.specs.Reading.{Reading, refused, proper, short, marked, PR, AR, arFault, prFault, architectureAt, processAt, Front}
+use Rattle.model.specs.Reading.{refused, proper, short, marked, PR, AR, arFault, prFault, architectureAt}
 use Rattle.model.specs.Reading.{readProcess, readProcesses, readFront, refuse_when_else_}
 use Rattle.model.specs.SheetFile.{processBytes, processesBytes, frontBytes}
-use Rattle.model.proofs.Refusing.{stop, go}
+use Rattle.model.proofs.Refusing.{go}
 use Rattle.model.proofs.FaultsExact.{opening-faultless, process-faultless}
-use Rattle.model.proofs.RecordAt.{At, behind, next, byte-at, long-enough, marked-at, process-at}
+use Rattle.model.proofs.RecordAt.{At, behind, next, long-enough, marked-at, process-at}
 
 module _ (b : List ℕ) where
   -- ---- one PR
@@ -41,6 +40,7 @@ module _ (b : List ℕ) where
   no-process i a (suc k) mark = rw mark
 
 -- ---- proper processes
+-- what holds within a list holds within its front
 pairwise-left : {A : Type 0} {R : A → A → Type 0} (xs ys : List A) → Pairwise R (xs ++ ys) → Pairwise R xs
 pairwise-left [] ys p = empty
 pairwise-left (x ∷ xs) ys (before h p) = before (λ y m. h y (Memᴰ·append-left ys m)) (pairwise-left xs ys p)
@@ -72,6 +72,7 @@ one-then-more : (a : Architecture) (p : Process) (ps : List Process) → withPro
 unfolding withProcess withProcesses
 one-then-more a p ps = λ j. record { variables = a .variables; environment = a .environment; root = a .root; processes = append-assoc (a .processes) (p ∷ []) ps j }
 
+-- all of them, with room for k more
 processes-through : (b : List ℕ) (ps : List Process) (k : ℕ) (a : Architecture) (i : ℕ) (x : List ℕ) → At b i (processesBytes ps ++ x) → ProperFront (withProcesses a ps)
     → readProcesses (length ps + k) a b i ≡ readProcesses k (withProcesses a ps) b (i + length (processesBytes ps))
 unfolding processesBytes processBytes

@@ -1,17 +1,17 @@
 -- What reading finds at a place is what is written there: with x from place i on in the row b, the tests and bytes of b at i are those of x.
 use mathlib.Core.Path.{_≡_, refl, sym, ap, _∙_}
-use mathlib.Core.Bool.{Bool, true, false, _&&_, not}
-use mathlib.Core.List.{List, [], _∷_, _++_, append-assoc}
-use Prim.Native.Nat.{ℕ, zero, suc, _+_, _≤_, _<_}
+use mathlib.Core.Bool.{true, false, _&&_}
+use mathlib.Core.List.{List, _∷_, _++_, append-assoc}
+use Prim.Native.Nat.{ℕ, _+_, _≤_, _<_}
 use native.Mathlib.Nat.{add-zero}
 use native.Mathlib.Omega.{arith}
-use lib.Dec.{eqb, ltb}
+use lib.Dec.{eqb}
 use lib.ListN.{length, length-append}
 use lib.Seq.{getD-append-add}
 use borrow.Author.Tests.{lt-ltb, le-ltb}
-use Rattle.model.specs.Sheet.{Process, Edge, Automaton}
+use Rattle.model.specs.Sheet.{Process, Edge}
 use Rattle.model.specs.Reading.{byte, short, marked, processAt, edgeAt}
-use Rattle.model.specs.SheetFile.{processBytes, edgeBytes, statesBytes}
+use Rattle.model.specs.SheetFile.{processBytes, edgeBytes}
 
 -- b has x from place i on
 pub record At (b : List ℕ) (i : ℕ) (x : List ℕ) : Type 0 where

@@ -2,16 +2,15 @@
 use mathlib.Core.Path.{_≡_, refl, sym, ap, _∙_}
 use mathlib.Core.Bool.{true, false, not}
 use mathlib.Core.Logic.{_⊎_, inl, inr}
-use mathlib.Core.List.{List, [], _∷_, _++_, append-nil, append-assoc}
-use Prim.Native.Nat.{ℕ, zero, suc, _+_, _-_, _≤_, _<_}
+use mathlib.Core.List.{List, [], _++_, append-nil, append-assoc}
+use Prim.Native.Nat.{ℕ, _+_, _-_, _≤_}
 use native.Mathlib.Omega.{arith}
-use lib.Dec.{ltb}
 use lib.ListN.{length, length-append}
 use borrow.Author.Tests.{le-ltb}
 use Rattle.model.specs.declared.Refusal.{Refusal}
 use Rattle.model.specs.declared.Refusal.the-variants.{SheetTooShort, WrongMark, NoOwnerOrTooMany, BadAutomaton}
 use Rattle.model.specs.Sheet.{Architecture, Edge, Automaton, Sheet, ProperFront, ProperArchitecture, ProperAutomaton, ProperSheet}
-use Rattle.model.specs.Reading.{Reading, refused, proper, short, marked, PR, ED, EN, Front}
+use Rattle.model.specs.Reading.{Reading, refused, proper, marked, PR, ED, EN}
 use Rattle.model.specs.Reading.{readEnd, readEdges, readAutomaton, readProcesses, readFront, readSheet, _then_}
 use Rattle.model.specs.SheetFile.{statesBytes, edgesBytes, frontBytes, automatonBytes, recordsBytes, sheetBytes}
 use Rattle.model.proofs.Refusing.{go}
@@ -21,15 +20,18 @@ use Rattle.model.proofs.FrontReads.{no-process, front-through}
 use Rattle.model.proofs.AutomatonReads.{withEdges, states-next, no-edge, edges-through}
 
 -- ---- the front and what is behind it
+-- what refuses the front, refuses the sheet
 pub front-refused : (b : List ℕ) (r : Refusal) → readFront b ≡ refused r → readSheet b ≡ refused r
 unfolding readSheet _then_
 front-refused b r e = rw e
 
 module _ (b : List ℕ) (a : Architecture) (i : ℕ) (front : readFront b ≡ proper record { architecture = a; end = i }) where
+  -- read: AU is next
   behind-front : readSheet b ≡ (readAutomaton a b i then λ u. proper record { architecture = a; automaton = u })
   unfolding readSheet _then_
   behind-front = rw front
 
+  -- and so what refuses AU or what is behind it
   pub automaton-refused : (r : Refusal) → readAutomaton a b i ≡ refused r → readSheet b ≡ refused r
   unfolding _then_
   automaton-refused r e = behind-front ∙ rw e
@@ -44,12 +46,14 @@ front-done a x b e g (inr mark) =
     front-through a x b (4 - length (a .processes)) e g (omega arith) ∙ no-process b (length (frontBytes a)) a (4 - length (a .processes)) mark
 
 -- ---- AU and its edges, with room for k more
+-- the edges read and those behind them
 edges-gathered : (u : Automaton) (m : Reading (List Edge)) →
     ((m then λ rs. proper (u .edges ++ rs)) then λ es. proper (withEdges u es)) ≡ (m then λ rs. proper (withEdges u (u .edges ++ rs)))
 unfolding _then_
 edges-gathered u (refused r) = refl
 edges-gathered u (proper rs) = refl
 
+-- all of it
 automaton-through : (b : List ℕ) (i k : ℕ) (a : Architecture) (u : Automaton) (x : List ℕ) → At b i (automatonBytes u ++ x) → ProperArchitecture a → ProperAutomaton (a .variables) u
     → length (u .edges) + k ≡ 64
     → readAutomaton a b i ≡ (readEdges (a .variables) (u .states) k b (i + length (automatonBytes u)) then λ rs. proper (withEdges u (u .edges ++ rs)))
@@ -71,6 +75,7 @@ unfoldable moreEdges : Sheet → List Edge → Sheet
 unfolding withEdges
 moreEdges s es = record { architecture = s .architecture; automaton = withEdges (s .automaton) (s .automaton .edges ++ es) }
 
+-- the sheet of what is read
 gathered : (s : Sheet) (m : Reading (List Edge)) →
     ((m then λ rs. proper (withEdges (s .automaton) (s .automaton .edges ++ rs))) then λ u. proper record { architecture = s .architecture; automaton = u })
     ≡ (m then λ es. proper (moreEdges s es))
@@ -78,6 +83,7 @@ unfolding _then_ moreEdges
 gathered s (refused r) = refl
 gathered s (proper es) = refl
 
+-- AR to the last ED
 records-through : (s : Sheet) (x b : List ℕ) (k : ℕ) → b ≡ recordsBytes s ++ x → ProperSheet s → length (s .automaton .edges) + k ≡ 64
     → readSheet b ≡ (readEdges (s .architecture .variables) (s .automaton .states) k b (length (recordsBytes s)) then λ es. proper (moreEdges s es))
 unfolding recordsBytes automatonBytes statesBytes
@@ -125,6 +131,7 @@ end-reads {b} {i} h =
     ∙ go WrongMark _ (ap not mark)
     ∙ go WrongMark _ (le-ltb (i + 2) (length b) (omega (arith, length-at h)))
 
+-- no edge behind its own
 no-more : (s : Sheet) → moreEdges s [] ≡ s
 unfolding moreEdges withEdges
 no-more s = λ j. record {

@@ -1,14 +1,14 @@
 -- A row that ends within a mark, or within the record of a mark that may stand there, is refused by 1: what stands before is read through.
 use mathlib.Core.Path.{_≡_, refl, ap, _∙_}
-use mathlib.Core.Bool.{true, false, not}
+use mathlib.Core.Bool.{true, not}
 use mathlib.Core.Logic.{inr}
-use mathlib.Core.List.{List, [], _∷_, _++_, append-assoc}
+use mathlib.Core.List.{List, [], _++_, append-assoc}
 use Prim.Native.Nat.{ℕ, suc, _+_, _-_, _≤_, _<_}
 use native.Mathlib.Omega.{arith}
 use lib.ListN.{length}
 use Rattle.model.specs.declared.Refusal.the-variants.{SheetTooShort, WrongMark}
-use Rattle.model.specs.Sheet.{Architecture, Edge, Sheet, ProperFront, ProperSheet}
-use Rattle.model.specs.Reading.{Reading, refused, proper, short, marked, AR, PR, AU, ED, readEnd, readAutomaton, readFront, readSheet, _then_}
+use Rattle.model.specs.Sheet.{Architecture, Sheet, ProperFront, ProperSheet}
+use Rattle.model.specs.Reading.{refused, marked, AR, PR, AU, ED, readEnd, readAutomaton, readFront, readSheet}
 use Rattle.model.specs.SheetFile.{frontBytes, recordsBytes, Unfinished, in-first-mark, in-architecture, in-mark-behind-front, in-process, in-states, in-mark-behind-edges, in-edge}
 use Rattle.model.proofs.Refusing.{stop, go}
 use Rattle.model.proofs.RecordAt.{At, behind, too-short, long-enough, no-mark, marked-at}
@@ -51,7 +51,7 @@ states-short a x b e g some l =
 
 -- ---- behind AU
 end-short : (s : Sheet) (x b : List ℕ) → b ≡ recordsBytes s ++ x → ProperSheet s → length x < 2 → readSheet b ≡ refused SheetTooShort
-unfolding readEnd _then_
+unfolding readEnd
 end-short s x b e g l =
     let here : At b (length (recordsBytes s)) x = behind (recordsBytes s) x e in
     end-refused s x b e g SheetTooShort (inr (no-mark here l ED)) (stop SheetTooShort _ (too-short here 2 l))
