@@ -18,9 +18,9 @@ use Rattle.model.proofs.Refusing.{go}
 use Rattle.model.proofs.FaultsExact.{fields-of-edge-faultless}
 use Rattle.model.proofs.RecordAt.{At, next, byte-at, long-enough, marked-at, edge-at}
 
--- the automaton with these edges
-unfoldable pub withEdges : Automaton → List Edge → Automaton
-withEdges u es = record { states = u .states; initial = u .initial; rejecting = u .rejecting; edges = es }
+-- the automaton with these edges for its own
+unfoldable pub havingEdges : Automaton → List Edge → Automaton
+havingEdges u es = record { states = u .states; initial = u .initial; rejecting = u .rejecting; edges = es }
 
 module _ (b : List ℕ) where
   -- ---- AU
@@ -33,8 +33,8 @@ module _ (b : List ℕ) where
       → readAutomaton a b i ≡
       refuse_when_else_ NoOwnerOrTooMany (allFault a)
       (refuse_when_else_ BadAutomaton (auFault (u .states) (u .initial) (u .rejecting))
-      (readEdges (a .variables) (u .states) 64 b (i + 6) then λ es. proper (withEdges u es)))
-  unfolding readAutomaton statesBytes withEdges
+      (readEdges (a .variables) (u .states) 64 b (i + 6) then λ es. proper (havingEdges u es)))
+  unfolding readAutomaton statesBytes havingEdges
   states-next i a u x h some =
       let two : short b i 2 ≡ false = long-enough h 2 (omega arith) in
       let six : short b i 6 ≡ false = long-enough h 6 (omega arith) in

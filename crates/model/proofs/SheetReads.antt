@@ -17,7 +17,7 @@ use Rattle.model.proofs.Refusing.{go}
 use Rattle.model.proofs.FaultsExact.{front-faultless, states-faultless}
 use Rattle.model.proofs.RecordAt.{At, behind, next, length-at, long-enough, marked-at}
 use Rattle.model.proofs.FrontReads.{no-process, front-through}
-use Rattle.model.proofs.AutomatonReads.{withEdges, states-next, no-edge, edges-through}
+use Rattle.model.proofs.AutomatonReads.{havingEdges, states-next, no-edge, edges-through}
 
 -- ---- the front and what is behind it
 -- what refuses the front, refuses the sheet
@@ -48,7 +48,7 @@ front-done a x b e g (inr mark) =
 -- ---- AU and its edges, with room for k more
 -- the edges read and those behind them
 edges-gathered : (u : Automaton) (m : Reading (List Edge)) →
-    ((m then λ rs. proper (u .edges ++ rs)) then λ es. proper (withEdges u es)) ≡ (m then λ rs. proper (withEdges u (u .edges ++ rs)))
+    ((m then λ rs. proper (u .edges ++ rs)) then λ es. proper (havingEdges u es)) ≡ (m then λ rs. proper (havingEdges u (u .edges ++ rs)))
 unfolding _then_
 edges-gathered u (refused r) = refl
 edges-gathered u (proper rs) = refl
@@ -56,7 +56,7 @@ edges-gathered u (proper rs) = refl
 -- all of it
 automaton-through : (b : List ℕ) (i k : ℕ) (a : Architecture) (u : Automaton) (x : List ℕ) → At b i (automatonBytes u ++ x) → ProperArchitecture a → ProperAutomaton (a .variables) u
     → length (u .edges) + k ≡ 64
-    → readAutomaton a b i ≡ (readEdges (a .variables) (u .states) k b (i + length (automatonBytes u)) then λ rs. proper (withEdges u (u .edges ++ rs)))
+    → readAutomaton a b i ≡ (readEdges (a .variables) (u .states) k b (i + length (automatonBytes u)) then λ rs. proper (havingEdges u (u .edges ++ rs)))
 unfolding automatonBytes statesBytes
 automaton-through b i k a u x h ga gu room =
     let edges : At b (i + 6) (edgesBytes (u .edges) ++ x) = next (statesBytes u) (edgesBytes (u .edges) ++ x) h in
@@ -64,20 +64,20 @@ automaton-through b i k a u x h ga gu room =
     states-next b i a u (edgesBytes (u .edges) ++ x) h (ga .some-process)
     ∙ go NoOwnerOrTooMany _ (front-faultless a ga)
     ∙ go BadAutomaton _ (states-faultless (a .variables) u gu)
-    ∙ ap (λ (n : ℕ). readEdges (a .variables) (u .states) n b (i + 6) then λ es. proper (withEdges u es)) (sym room)
-    ∙ ap (λ (m : Reading (List Edge)). m then λ es. proper (withEdges u es)) (edges-through b (a .variables) (u .states) (u .edges) (i + 6) k x edges (gu .edges-proper))
+    ∙ ap (λ (n : ℕ). readEdges (a .variables) (u .states) n b (i + 6) then λ es. proper (havingEdges u es)) (sym room)
+    ∙ ap (λ (m : Reading (List Edge)). m then λ es. proper (havingEdges u es)) (edges-through b (a .variables) (u .states) (u .edges) (i + 6) k x edges (gu .edges-proper))
     ∙ edges-gathered u (readEdges (a .variables) (u .states) k b (i + 6 + length (edgesBytes (u .edges))))
-    ∙ ap (λ (n : ℕ). readEdges (a .variables) (u .states) k b n then λ rs. proper (withEdges u (u .edges ++ rs))) place
+    ∙ ap (λ (n : ℕ). readEdges (a .variables) (u .states) k b n then λ rs. proper (havingEdges u (u .edges ++ rs))) place
 
 -- ---- all records, with room for k more edges
 -- the sheet with these edges behind its own
 unfoldable moreEdges : Sheet → List Edge → Sheet
-unfolding withEdges
-moreEdges s es = record { architecture = s .architecture; automaton = withEdges (s .automaton) (s .automaton .edges ++ es) }
+unfolding havingEdges
+moreEdges s es = record { architecture = s .architecture; automaton = havingEdges (s .automaton) (s .automaton .edges ++ es) }
 
 -- the sheet of what is read
 gathered : (s : Sheet) (m : Reading (List Edge)) →
-    ((m then λ rs. proper (withEdges (s .automaton) (s .automaton .edges ++ rs))) then λ u. proper record { architecture = s .architecture; automaton = u })
+    ((m then λ rs. proper (havingEdges (s .automaton) (s .automaton .edges ++ rs))) then λ u. proper record { architecture = s .architecture; automaton = u })
     ≡ (m then λ es. proper (moreEdges s es))
 unfolding _then_ moreEdges
 gathered s (refused r) = refl
@@ -133,7 +133,7 @@ end-reads {b} {i} h =
 
 -- no edge behind its own
 no-more : (s : Sheet) → moreEdges s [] ≡ s
-unfolding moreEdges withEdges
+unfolding moreEdges havingEdges
 no-more s = λ j. record {
   architecture = s .architecture;
   automaton = record { states = s .automaton .states; initial = s .automaton .initial; rejecting = s .automaton .rejecting; edges = append-nil (s .automaton .edges) j };
