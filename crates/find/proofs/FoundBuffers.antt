@@ -25,7 +25,7 @@ use Rattle.model.specs.Numbers.{number}
 use Rattle.model.proofs.ProperSheet.{passes, goes-on, sheet-proper}
 use Rattle.model.proofs.Sizes.{book-short}
 use Rattle.model.proofs.BookInverse.{filled-length}
-use Rattle.model.proofs.DemandTwo.{written-is-read}
+use Rattle.model.proofs.BookRead.{choice-read}
 use Rattle.model.proofs.FirstInOrder.{first-some, entries-small}
 use Rattle.sheet.specs.declared.Sheet as sheets
 use Rattle.sheet.specs.declared.Reading.{Reading}
@@ -184,7 +184,7 @@ module _ (s : Sheet) (book ann : List ℕ) (h : Chose s book ann) where
     unfolding gave
     tables-are =
         let same : take n book ≡ bookOf (s .architecture) (h .choice) = ap (λ (k : ℕ). take k book) e ∙ h .book-is in
-        let read : readBook (s .architecture) (take n book) ≡ proper (h .choice) = ap (readBook (s .architecture)) same ∙ written-is-read (s .architecture) (h .choice) (h .is-choice) in
+        let read : readBook (s .architecture) (take n book) ≡ proper (h .choice) = choice-read (s .architecture) (take n book) (h .choice) (h .is-choice) (sym same) in
         ap (λ (x : AfterRead). x .tables) (q ∙ ap gave read)
 
     pub are-choice : IsChoice (s .architecture) (take (length (entries (s .architecture))) (r .tables))

@@ -53,10 +53,17 @@ fn answer_text(text: &mut [u8; 1024], sheet: &[u8]) -> usize
     }
 }
 
+// Puts out the text that is due for the bytes of a sheet file: this is all that the program writes.
+fn put_out(sheet: &[u8], text: &[u8])
+    requires { ⌜ now text ≡ printed (now sheet) ⌝ }
+{
+    io::write_all(STDOUT_FILENO, text);
+}
+
 fn main() {
     let mut sheet = [0u8; ROOM];
     let length = io::read_full(STDIN_FILENO, &mut sheet);
     let mut text = [0u8; 1024];
     let end = answer_text(&mut text, &sheet[..length]);
-    io::write_all(STDOUT_FILENO, &text[..end]);
+    put_out(&sheet[..length], &text[..end]);
 }

@@ -9,7 +9,7 @@ use Rattle.model.specs.Reading.{refused, proper}
 use Rattle.model.specs.Choice.{IsChoice, chosen}
 use Rattle.model.specs.Book.{readBook}
 use Rattle.model.specs.Calls.{AfterRead, tablesOf, gave}
-use Rattle.model.proofs.DemandTwo.{read-right}
+use Rattle.model.proofs.BookRead.{read-choice}
 use Rattle.book.specs.declared.TablesRead.{TablesRead}
 use Rattle.book.specs.Answers.{afterRead}
 use Rattle.book.proofs.ReadingAnswers.{gave-refused, gave-done}
@@ -30,7 +30,7 @@ module _ (a : Architecture) (book : List ℕ) (r : TablesRead) (after : afterRea
   unfolding gave
   was-read h =
       let d = gave-done (readBook a book) (sym (ap (λ (x : AfterRead). x .answer) after) ∙ h) in
-      let choice : IsChoice a (d .0) = read-right a book (d .0) (d .1) .is-choice in
+      let choice : IsChoice a (d .0) = read-choice a book (d .0) (d .1) .0 in
       let tables : r .tables ≡ tablesOf (d .0) = ap (λ (x : AfterRead). x .tables) (after ∙ ap gave (d .1)) in
       let same : chosen a (r .tables) ≡ d .0 = ap (chosen a) tables ∙ chosen-tables a (d .0) choice in
       record { is-choice = subst (IsChoice a) (sym same) choice; is-read = d .1 ∙ ap (λ (c : List ℕ). proper c) (sym same) }

@@ -3,7 +3,7 @@ use mathlib.Core.Path.{_≡_, refl, sym, ap, _∙_}
 use mathlib.Core.Bool.{Bool}
 use mathlib.Core.List.{List}
 use Prim.Native.Nat.{ℕ, zero, suc, _+_, _*_, _/_, _%_, _^_, _≤_, _<_}
-use native.Mathlib.Nat.{mul-comm, mul-le-mul-left, mod-lt, suc-mul, pow-suc, div-div-eq-div-mul, div-one, add-mul, add-zero, add-suc, zero-mul}
+use native.Mathlib.Nat.{mul-comm, mul-le-mul, mul-le-mul-left, mod-lt, suc-mul, pow-suc, div-div-eq-div-mul, div-one, add-mul, add-zero, add-suc, zero-mul}
 use native.Mathlib.Omega.{arith}
 use lib.Dec.{eqb}
 use lib.Arith.{digits-div}
@@ -13,6 +13,7 @@ use Rattle.theory.specs.Lists.{one}
 use Rattle.theory.specs.Lists
 use Rattle.theory.specs.Graph.{rejecting-vertices}
 use Rattle.theory.specs.Annotation
+use Rattle.theory.proofs.ListLaws.{count-le}
 use Rattle.theory.proofs.AnnotationLaws.{annotation-length as theory-length}
 use Rattle.model.specs.Mask.{bit, count}
 use Rattle.model.specs.Sheet.{Sheet, ProperSheet}
@@ -85,10 +86,16 @@ rejecting-few s c good =
       mul-le-mul-left (T (s .architecture)) (bits-le (s .automaton .states) (s .automaton .rejecting)),
     )
 
+-- the numbers stay below blank
+pub below-blank : (s : Sheet) (c : List ℕ) → ProperSheet s → rejecting-vertices (runGraph s c) < blank
+unfolding rejecting-vertices runGraph vertices T
+below-blank s c good = omega (arith, count-le (runGraph s c .rejects) (vertices s), mul-le-mul (good .automaton .few-states) (good .architecture .few-composed))
+
 pub annotates : (s : Sheet) (c : List ℕ) → ProperSheet s → IsChoice (s .architecture) c → Keeps s c → Annotates s c (annotation s c)
 annotates s c good choice kept = record {
   whole = annotation-length s c;
   most = most-rejections s c good choice kept;
+  numbered = λ v r. omega (arith, few-rejections s c good choice kept v r, below-blank s c good);
   others = blank-elsewhere s c good choice kept;
   bounded = λ v r. omega (arith, few-rejections s c good choice kept v r, rejecting-few s c good);
 }

@@ -1,29 +1,24 @@
 -- The annotation of a choice that keeps the sheet is valid, also at the front of a longer buffer.
 use mathlib.Core.Path.{_≡_, sym, _∙_}
 use mathlib.Core.Bool.{true}
+use mathlib.Core.Logic.{_↔_}
 use mathlib.Core.List.{List}
-use Prim.Native.Nat.{ℕ, _≤_, _<_}
-use native.Mathlib.Nat.{mul-le-mul}
+use Prim.Native.Nat.{ℕ, _*_, _≤_, _<_}
 use native.Mathlib.Omega.{arith}
 use lib.ListN.{length, drop, getD, length-append, List·getD-append}
-use Rattle.theory.specs.Graph.{rejecting-vertices}
 use Rattle.theory.specs.Annotation
-use Rattle.theory.proofs.ListLaws.{count-le}
+use Rattle.theory.proofs.AnnotationLaws.{valid-exists}
 use Rattle.theory.proofs.ValidLaws.{annotation-test}
+use Rattle.model.specs.Mask.{count}
 use Rattle.model.specs.Sheet.{Sheet, ProperSheet}
 use Rattle.model.specs.Compose.{T}
 use Rattle.model.specs.Choice.{IsChoice}
-use Rattle.model.specs.RunGraph.{vertices, Keeps, blank, Valid}
+use Rattle.model.specs.RunGraph.{vertices, Reachable, Keeps, blank, Valid}
 use Rattle.model.specs.Computed.{runGraph, annotation, valid}
 use Rattle.model.specs.Calls.{front}
 use Rattle.model.proofs.RunGraphSteps.{start-lt, step-lt, graph-finite}
-use Rattle.model.proofs.ComputedTests.{loop-from, valid-exactly}
-use Rattle.model.proofs.AnnotationExact.{annotates}
-
--- ---- the numbers stay below blank
-below-blank : (s : Sheet) (c : List ℕ) → ProperSheet s → rejecting-vertices (runGraph s c) < blank
-unfolding rejecting-vertices runGraph vertices T
-below-blank s c good = omega (arith, count-le (runGraph s c .rejects) (vertices s), mul-le-mul (good .automaton .few-states) (good .architecture .few-composed))
+use Rattle.model.proofs.ComputedTests.{loop-to, loop-from, valid-to, valid-from, valid-exactly}
+use Rattle.model.proofs.AnnotationExact.{below-blank, annotates}
 
 -- ---- only the numbers of the vertices count
 same-valid : (s : Sheet) (c : List ℕ) → ProperSheet s → IsChoice (s .architecture) c → (f g : ℕ → ℕ) → ((v : ℕ) → v < vertices s → f v ≡ g v) → Valid s c f → Valid s c g
@@ -53,3 +48,19 @@ module _ (s : Sheet) (c : List ℕ) (good : ProperSheet s) (choice : IsChoice (s
       (same-valid s c good choice (λ v. getD (annotation s c) v blank) (λ v. getD (front (annotation s c) ann) v blank)
       (λ v l. sym (List·getD-append (annotation s c) (drop (length (annotation s c)) ann) blank v (omega (arith, whole))))
       (valid-exactly s c good choice (annotation s c) .0 annotation-valid))
+
+-- a choice keeps the sheet exactly where a valid annotation exists, and then one exists whose numbers are at most T times the rejecting states
+module _ (s : Sheet) (c : List ℕ) (good : ProperSheet s) (choice : IsChoice (s .architecture) c) where
+  pub valid-exactly-where-kept : ((num : ℕ → ℕ) × Valid s c num) ↔ Keeps s c
+  valid-exactly-where-kept =
+      let paper = valid-exists (graph-finite s c good choice) (below-blank s c good) in (
+        λ a o. paper .0 (a .0, valid-to s c good choice (a .0) (a .1)) (loop-to s c good choice o),
+        λ kept. let a = paper .1 (λ o. kept (loop-from s c good choice o)) in (a .0, valid-from s c good choice (a .0) (a .1)),
+      )
+
+  pub valid-bounded : Keeps s c → (num : ℕ → ℕ) × Valid s c num × ((v : ℕ) → Reachable s c v → num v ≤ T (s .architecture) * count (s .automaton .rejecting))
+  valid-bounded kept = (
+    λ v. getD (annotation s c) v blank,
+    valid-exactly s c good choice (annotation s c) .0 (annotation-valid s c good choice kept),
+    annotates s c good choice kept .bounded,
+  )

@@ -5,7 +5,8 @@ use mathlib.Core.List.{List, [], _∷_, _++_}
 use Prim.Native.Nat.{ℕ, zero, suc, _+_}
 use native.Mathlib.Omega.{arith}
 use lib.Dec.{eqb}
-use lib.ListN.{length, replicate, length-append}
+use lib.ListN.{length, replicate, take, drop, length-append}
+use lib.Seq.{drop-nil}
 use borrow.Author.Tests.{eqb-true, eq-eqb}
 use Rattle.theory.proofs.Bools.{and-is}
 use Rattle.model.specs.Sheet.{Process, Architecture}
@@ -20,6 +21,22 @@ filled-front [] c r l = refl
 filled-front (due x ∷ ps) c r l = ap (λ (b : List ℕ). x ∷ b) (filled-front ps c r l)
 filled-front (entry ∷ ps) [] r l = absurd (omega arith)
 filled-front (entry ∷ ps) (v ∷ c) r l = ap (λ (b : List ℕ). v ∷ b) (filled-front ps c r (omega arith))
+
+-- only as many entries count as there are slots for
+pub filled-take : (ps : List Slot) (c : List ℕ) → filled ps c ≡ filled ps (take (holes ps) c)
+unfolding filled holes
+filled-take [] c = refl
+filled-take (due x ∷ ps) c = ap (λ (b : List ℕ). x ∷ b) (filled-take ps c)
+filled-take (entry ∷ ps) [] = refl
+filled-take (entry ∷ ps) (v ∷ c) = ap (λ (b : List ℕ). v ∷ b) (filled-take ps c)
+
+-- slots one behind the other take their entries one behind the other
+pub filled-append : (ps qs : List Slot) (c : List ℕ) → filled (ps ++ qs) c ≡ filled ps c ++ filled qs (drop (holes ps) c)
+unfolding filled holes
+filled-append [] qs c = refl
+filled-append (due x ∷ ps) qs c = ap (λ (b : List ℕ). x ∷ b) (filled-append ps qs c)
+filled-append (entry ∷ ps) qs [] = ap (λ (b : List ℕ). 0 ∷ b) (filled-append ps qs [] ∙ ap (λ (l : List ℕ). filled ps [] ++ filled qs l) (drop-nil (holes ps)))
+filled-append (entry ∷ ps) qs (v ∷ c) = ap (λ (b : List ℕ). v ∷ b) (filled-append ps qs c)
 
 pub filled-length : (ps : List Slot) (c : List ℕ) → length (filled ps c) ≡ length ps
 unfolding filled
@@ -88,7 +105,7 @@ holes-records i p (suc n) x =
       row-length p,
     )
 
-holes-all : (i : ℕ) (ps : List Process) → holes (allRecords i ps) ≡ length (rows ps)
+pub holes-all : (i : ℕ) (ps : List Process) → holes (allRecords i ps) ≡ length (rows ps)
 unfolding holes allRecords rows
 holes-all i [] = refl
 holes-all i (p ∷ ps) =

@@ -1,103 +1,77 @@
--- Demand 1: a sheet is refused by 1 to 7 only, and no refusal, `none` or `loop` changes a buffer.
-use mathlib.Core.Path.{_≡_, refl, sym, subst}
-use mathlib.Core.Bool.{Bool, true, false, _||_, not}
-use mathlib.Core.List.{List, [], _∷_, _++_}
+-- Demand 1: a sheet and a call are refused exactly as 01 says, by its numbers and no others, and no refusal, `none` or `loop` changes a buffer.
+use mathlib.Core.Path.{_≡_, refl, sym, ap, _∙_}
+use mathlib.Core.Bool.{Bool, true, false}
+use mathlib.Core.Logic.{_⊎_, inl, inr, _↔_}
+use mathlib.Core.List.{List, [], _∷_, _++_, List·Memᴰ, List·Memᴰ·head, List·Memᴰ·tail}
 use mathlib.Core.Option.{Option, none, some}
-use Prim.Native.Nat.{ℕ, zero, suc, _+_, _*_, _≤_}
+use Prim.Native.Nat.{ℕ, _<_}
 use native.Mathlib.Omega.{arith}
-use lib.Dec.{eqb, ltb}
-use lib.ListN.{length}
+use lib.ListN.{length, take}
 use Rattle.model.specs.declared.Refusal.{Refusal}
-use Rattle.model.specs.declared.Refusal.the-variants.{SheetTooShort, WrongMark, BadArchitecture, BadProcess, NoOwnerOrTooMany, BadAutomaton, BadEdge}
+use Rattle.model.specs.declared.Refusal.the-variants.{SheetTooShort, WrongMark}
 use Rattle.model.specs.declared.Finding.the-variants.{Yes, No}
 use Rattle.model.specs.declared.Verdict.{Verdict}
 use Rattle.model.specs.declared.Reply.{Reply}
 use Rattle.model.specs.declared.Outcome.{Outcome}
 use Rattle.model.specs.Numbers.{number}
-use Rattle.model.specs.Mask.{if}
-use Rattle.model.specs.Sheet.{Architecture, Sheet, withProcess}
-use Rattle.model.specs.Reading.{Reading, refused, proper, byte, short, marked, EN, ED, AU, PR}
-use Rattle.model.specs.Reading.{AR, arFault, prFault, allFault, auFault, edFault, architectureAt, processAt, edgeAt, readEnd}
-use Rattle.model.specs.Reading.{readEdge, readEdges, readAutomaton, readProcess, readProcesses, readFront, readSheet, refuse_when_else_, _then_}
+use Rattle.model.specs.Sheet.{Architecture, Sheet}
+use Rattle.model.specs.Reading.{Reading, refused, proper, readSheet}
+use Rattle.model.specs.SheetFile.{Bytes}
 use Rattle.model.specs.Computed.{loops, firstChoice}
 use Rattle.model.specs.Calls.{Chosen, reply, checkOf, findSheet, findChoice, findIn, findOf, bookAndRoom, annotatedBy}
 use Rattle.model.specs.Calls.{annotated, annotateOf, written, wrote, writeOf, partArchitecture, cut, partOf, part}
+use Rattle.model.specs.Refusals.{BookRefused, not-formed, no-choice, Among, FindRefused, JudgeRefused, WriteRefused, ReadRefused, PartRefused}
 use Rattle.model.specs.Demands.{demand-1}
+use Rattle.model.proofs.SheetNumbers.{early}
+use Rattle.model.proofs.CallRefusals.{check-answer, find-exactly, judge-exactly, annotate-exactly, write-exactly, read-exactly, part-exactly}
+use Rattle.model.proofs.SheetClassified.{unfinished, begins-faulty}
+use Rattle.model.proofs.SheetClassified as classified
+use Rattle.model.proofs.SheetReads.{sheet-reads}
+use Rattle.model.proofs.UnfinishedRefused.{unfinished-refused}
+use Rattle.model.proofs.FaultyRefused.{faulty-refused, begins-faulty-refused}
+use Rattle.model.proofs.Damage.{more-refused, cut-refused}
 
--- ---- 1 to 7
-abbrev Early : {A : Type 0} → Reading A → Type 0
-Early k = (r : Refusal) → k ≡ refused r → (1 ≤ number r) × (number r ≤ 7)
+-- ---- the numbers that a call can give
+find-among : (sheet book ann : List ℕ) (r : Refusal) → FindRefused sheet book ann r → Among (8 ∷ 9 ∷ []) r
+find-among sheet book ann r (FindRefused.by-sheet q e) = inl (early sheet r e)
+find-among sheet book ann r (FindRefused.short-book s e l) = inr (List·Memᴰ·head refl)
+find-among sheet book ann r (FindRefused.short-annotation s e l m) = inr (List·Memᴰ·tail (List·Memᴰ·head refl))
 
-early-proper : {A : Type 0} (a : A) → Early (proper a)
-early-proper a r e = let z : _≡_ {A = ℕ} 0 1 = cc in absurd (omega arith)
+book-among : (a : Architecture) (book : List ℕ) (r : Refusal) (ns : List ℕ) → BookRefused a book r → List·Memᴰ (number r) (10 ∷ 11 ∷ ns)
+book-among a book r ns (not-formed n) = List·Memᴰ·head refl
+book-among a book r ns (no-choice c f n) = List·Memᴰ·tail (List·Memᴰ·head refl)
 
-early-refuse : {A : Type 0} (r : Refusal) (t : Bool) (k : Reading A) → (1 ≤ number r) × (number r ≤ 7) → Early k → Early (refuse_when_else_ r t k)
-unfolding refuse_when_else_
-early-refuse r true k h l q e = let z : r ≡ q = cc in subst (λ (x : Refusal). (1 ≤ number x) × (number x ≤ 7)) z h
-early-refuse r false k h l q e = l q e
+judge-among : (sheet book ann : List ℕ) (r : Refusal) → JudgeRefused sheet book ann r → Among (10 ∷ 11 ∷ 9 ∷ []) r
+judge-among sheet book ann r (JudgeRefused.by-sheet q e) = inl (early sheet r e)
+judge-among sheet book ann r (JudgeRefused.by-book s q e h) = inr (book-among (s .architecture) book r (9 ∷ []) h)
+judge-among sheet book ann r (JudgeRefused.short-annotation s c e f choice l) = inr (List·Memᴰ·tail (List·Memᴰ·tail (List·Memᴰ·head refl)))
 
-early-then : {A B : Type 0} (m : Reading A) (f : A → Reading B) → Early m → ((a : A) → Early (f a)) → Early (_then_ m f)
-unfolding _then_
-early-then (refused q) f h l r e = let z : q ≡ r = cc in subst (λ (x : Refusal). (1 ≤ number x) × (number x ≤ 7)) z (h q refl)
-early-then (proper a) f h l r e = l a r e
+write-among : (sheet tables book : List ℕ) (r : Refusal) → WriteRefused sheet tables book r → Among (11 ∷ 8 ∷ []) r
+write-among sheet tables book r (WriteRefused.by-sheet q e) = inl (early sheet r e)
+write-among sheet tables book r (WriteRefused.no-choice s e n) = inr (List·Memᴰ·head refl)
+write-among sheet tables book r (WriteRefused.short-book s e choice l) = inr (List·Memᴰ·tail (List·Memᴰ·head refl))
 
-early-if : {A : Type 0} (t : Bool) (x y : Reading A) → Early x → Early y → Early (if t x y)
-unfolding if
-early-if true x y h l = h
-early-if false x y h l = l
+read-among : (sheet book : List ℕ) (r : Refusal) → ReadRefused sheet book r → Among (10 ∷ 11 ∷ []) r
+read-among sheet book r (ReadRefused.by-sheet q e) = inl (early sheet r e)
+read-among sheet book r (ReadRefused.by-book s q e h) = inr (book-among (s .architecture) book r [] h)
 
-early-end : (b : List ℕ) (i : ℕ) → Early (readEnd b i)
-unfolding readEnd
-early-end b i =
-    early-refuse SheetTooShort (short b i 2) _ (omega arith)
-    (early-refuse WrongMark (not (marked b i EN)) _ (omega arith)
-    (early-refuse WrongMark (ltb (i + 2) (length b)) _ (omega arith) (early-proper [])))
+part-among : (sheet book : List ℕ) (i : ℕ) (r : Refusal) → PartRefused sheet book i r → Among (12 ∷ 10 ∷ 11 ∷ []) r
+part-among sheet book i r (PartRefused.by-sheet q e) = inl (early sheet r e)
+part-among sheet book i r (PartRefused.no-process s e l) = inr (List·Memᴰ·head refl)
+part-among sheet book i r (PartRefused.by-book s q e l h) = inr (List·Memᴰ·tail (book-among (s .architecture) book r [] h))
 
-early-edges : (variables states k : ℕ) (b : List ℕ) (i : ℕ) → Early (readEdges variables states k b i)
-unfolding readEdges readEdge
-early-edges variables states zero b i = early-end b i
-early-edges variables states (suc k) b i =
-    early-if (marked b i ED) (readEdge variables states b i (readEdges variables states k b (i + 6))) (readEnd b i)
-    (early-refuse SheetTooShort (short b i 6) _ (omega arith)
-    (early-refuse BadEdge (edFault variables states (edgeAt b i)) _ (omega arith)
-    (early-then (readEdges variables states k b (i + 6)) _ (early-edges variables states k b (i + 6)) (λ es. early-proper (edgeAt b i ∷ es)))))
-    (early-end b i)
+-- ---- a sheet that is checked
+was-proper : (sheet : List ℕ) → checkOf sheet ≡ Reply.Done → (s : Sheet) × (readSheet sheet ≡ proper s)
+unfolding checkOf reply
+was-proper sheet e = by (readSheet sheet) e
+  where
+    by : (k : Reading Sheet) → reply k ≡ Reply.Done → (s : Sheet) × (k ≡ proper s)
+    by (refused r) e = let z : _≡_ {A = ℕ} 0 1 = cc in absurd (omega arith)
+    by (proper s) e = (s, refl)
 
-early-automaton : (a : Architecture) (b : List ℕ) (i : ℕ) → Early (readAutomaton a b i)
-unfolding readAutomaton
-early-automaton a b i =
-    early-refuse SheetTooShort (short b i 2) _ (omega arith)
-    (early-refuse WrongMark (not (marked b i AU) || eqb (length (a .processes)) 0) _ (omega arith)
-    (early-refuse SheetTooShort (short b i 6) _ (omega arith)
-    (early-refuse NoOwnerOrTooMany (allFault a) _ (omega arith)
-    (early-refuse BadAutomaton (auFault (byte b (i + 2)) (byte b (i + 3)) (byte b (i + 4) + 256 * byte b (i + 5))) _ (omega arith)
-    (early-then (readEdges (a .variables) (byte b (i + 2)) 64 b (i + 6)) _ (early-edges (a .variables) (byte b (i + 2)) 64 b (i + 6)) (λ es. early-proper _))))))
-
-early-processes : (k : ℕ) (a : Architecture) (b : List ℕ) (i : ℕ) → Early (readProcesses k a b i)
-unfolding readProcesses readProcess
-early-processes zero a b i = early-proper _
-early-processes (suc k) a b i =
-    early-if (marked b i PR) (readProcess a b i (readProcesses k (withProcess a (processAt b i)) b (i + 5))) _
-    (early-refuse SheetTooShort (short b i 5) _ (omega arith)
-    (early-refuse BadProcess (prFault a (processAt b i)) _ (omega arith) (early-processes k (withProcess a (processAt b i)) b (i + 5))))
-    (early-proper _)
-
-early-front : (b : List ℕ) → Early (readFront b)
-unfolding readFront
-early-front b =
-    early-refuse SheetTooShort (short b 0 2) _ (omega arith)
-    (early-refuse WrongMark (not (marked b 0 AR)) _ (omega arith)
-    (early-refuse SheetTooShort (short b 0 5) _ (omega arith)
-    (early-refuse BadArchitecture (arFault (architectureAt b)) _ (omega arith) (early-processes 4 (architectureAt b) b 5))))
-
-pub early : (b : List ℕ) → Early (readSheet b)
-unfolding readSheet
-early b = early-then (readFront b) _ (early-front b) (λ f. early-then (readAutomaton (f .architecture) b (f .end)) _ (early-automaton (f .architecture) b (f .end)) (λ u. early-proper _))
-
-check-early : (k : Reading Sheet) → Early k → (r : Refusal) → reply k ≡ Reply.Refused r → (1 ≤ number r) × (number r ≤ 7)
-unfolding reply
-check-early (refused q) h r e = let z : q ≡ r = cc in subst (λ (x : Refusal). (1 ≤ number x) × (number x ≤ 7)) z (h q refl)
-check-early (proper s) h r e = let z : _≡_ {A = ℕ} 0 1 = cc in absurd (omega arith)
+check-refused : (sheet : List ℕ) (r : Refusal) → (checkOf sheet ≡ Reply.Refused r) ↔ (readSheet sheet ≡ refused r)
+unfolding checkOf
+check-refused sheet r = check-answer r (readSheet sheet)
 
 -- ---- nothing is changed
 find-kept : (k : Reading Sheet) (book ann : List ℕ) (o : Outcome) → findIn k book ann .answer ≡ o → ¬ (o ≡ Outcome.Tables) → (findIn k book ann .book ≡ book) × (findIn k book ann .annotation ≡ ann)
@@ -143,7 +117,35 @@ no≢yes e = let z : _≡_ {A = ℕ} 0 1 = cc in omega arith
 pub first-demand : demand-1
 unfolding checkOf findOf annotateOf writeOf partOf
 first-demand = record {
-  check-says-1-to-7 = λ sheet r e. check-early (readSheet sheet) (early sheet) r e;
+  proper-exactly = λ sheet s bytes. (
+    λ e. classified.written sheet s bytes e,
+    λ h. ap readSheet (h .0) ∙ sheet-reads s (h .1),
+  );
+  short-exactly = λ sheet bytes. (
+    λ e. unfinished sheet bytes (check-refused sheet SheetTooShort .0 e),
+    λ h. check-refused sheet SheetTooShort .1 (unfinished-refused sheet h),
+  );
+  fault-exactly = λ sheet r bytes other. (
+    λ e. begins-faulty sheet r bytes other (check-refused sheet r .0 e),
+    λ h. check-refused sheet r .1 (begins-faulty-refused sheet r h),
+  );
+  cut-is-short = λ sheet n bytes e l. let p = was-proper sheet e in check-refused (take n sheet) SheetTooShort .1 (cut-refused sheet (p .0) n bytes (p .1) l);
+  more-is-wrong = λ sheet x rest bytes e. let p = was-proper sheet e in check-refused (sheet ++ (x ∷ rest)) WrongMark .1 (more-refused sheet (p .0) x rest bytes (p .1));
+  rest-is-ignored = λ faulty rest rest′ r f.
+      check-refused (faulty ++ rest) r .1 (faulty-refused faulty rest r f) ∙ sym (check-refused (faulty ++ rest′) r .1 (faulty-refused faulty rest′ r f));
+  find-refusals = find-exactly;
+  judge-refusals = judge-exactly;
+  annotate-refusals = annotate-exactly;
+  write-refusals = write-exactly;
+  read-refusals = read-exactly;
+  part-refusals = part-exactly;
+  check-numbers = λ sheet r e. inl (early sheet r (check-refused sheet r .0 e));
+  find-numbers = λ sheet book ann r e. find-among sheet book ann r (find-exactly sheet book ann r .0 e);
+  judge-numbers = λ sheet book ann r e. judge-among sheet book ann r (judge-exactly sheet book ann r .0 e);
+  annotate-numbers = λ sheet book ann r e. judge-among sheet book ann r (annotate-exactly sheet book ann r .0 e);
+  write-numbers = λ sheet tables book r e. write-among sheet tables book r (write-exactly sheet tables book r .0 e);
+  read-numbers = λ sheet book r e. read-among sheet book r (read-exactly sheet book r .0 e);
+  part-numbers = λ sheet book i r e. part-among sheet book i r (part-exactly sheet book i r .0 e);
   find-refused = λ sheet book ann r e. find-kept (findSheet sheet book ann) book ann (Outcome.Refused r) e (refused≢tables r);
   annotate-refused = λ sheet book ann r e. annotate-kept (bookAndRoom sheet book ann) ann (Verdict.Refused r) e (refused≢found r);
   write-refused = λ sheet tables book r e. write-kept (written sheet tables book) book r e;

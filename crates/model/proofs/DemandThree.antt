@@ -15,16 +15,17 @@ use Rattle.model.specs.declared.Outcome.{Outcome}
 use Rattle.model.specs.Sheet.{Sheet, ProperSheet}
 use Rattle.model.specs.Reading.{Reading, proper, readSheet}
 use Rattle.model.specs.Choice.{IsChoice, padded}
-use Rattle.model.specs.RunGraph.{vertices, RejectingLoop}
+use Rattle.model.specs.RunGraph.{vertices, RejectingLoop, Keeps}
 use Rattle.model.specs.Computed.{loops, keeps, annotation, firstChoice}
-use Rattle.model.specs.Book.{form, bookLength, bookOf, readBook}
+use Rattle.model.specs.Book.{form, bookLength, bookOf}
 use Rattle.model.specs.Calls.{front, bookShort, annotationShort, AfterFind, findSheet, findChoice, findIn, findOf, judgeOf, AfterAnnotate, annotateOf, roomToFind}
-use Rattle.model.specs.Demands.{Annotates, First, bookFound, demand-3}
+use Rattle.model.specs.Demands.{Annotates, Weighed, First, bookFound, demand-3}
 use Rattle.model.proofs.ProperSheet.{passes, goes-on, sheet-proper}
 use Rattle.model.proofs.ComputedTests.{loops-exactly, keeps-exactly}
 use Rattle.model.proofs.AnnotationExact.{annotates}
 use Rattle.model.proofs.BookInverse.{filled-length}
-use Rattle.model.proofs.DemandTwo.{written-is-read, annotate-kept, second-demand}
+use Rattle.model.proofs.AnnotationPasses.{valid-exactly-where-kept, valid-bounded}
+use Rattle.model.proofs.DemandTwo.{annotate-kept, passes-judge}
 use Rattle.model.proofs.ChoicesInOrder.{choices-in-order}
 use Rattle.model.proofs.FirstUnique.{found-none, found-some}
 use Rattle.model.proofs.FewerStates.{padded-is-choice}
@@ -107,18 +108,23 @@ module _ (sheet book ann : List ℕ) (s : Sheet) (not-refused : findSheet sheet 
     own-is = ap (λ (a : AfterFind). take (bookLength (s .architecture)) (a .book)) (found c e)
         ∙ take-at (bookOf (s .architecture) c) (drop (length (bookOf (s .architecture) c)) book) (bookLength (s .architecture)) (filled-length (form (s .architecture)) c)
 
-    own-read : readBook (s .architecture) own ≡ proper c
-    own-read = ap (readBook (s .architecture)) own-is ∙ written-is-read (s .architecture) c (the-first c e .is-choice)
+    own-weighed : Weighed sheet own ann Keeps
+    own-weighed = record {
+      read = s;
+      choice = c;
+      is-proper = unrefused .0;
+      is-choice = the-first c e .is-choice;
+      is-book = sym own-is;
+      has-room = unrefused .1;
+      holds = the-first c e .keeps;
+    }
 
     agrees : annotateOf sheet own ann ≡ record { answer = Verdict.Found Yes; annotation = findOf sheet book ann .annotation }
-    agrees =
-        annotate-kept sheet s (unrefused .0) own ann c own-read (unrefused .1) (the-first c e .keeps)
-        ∙ ap (λ (a : AfterFind). record { answer = Verdict.Found Yes; annotation = a .annotation }) (sym (found c e))
+    unfolding own-weighed
+    agrees = annotate-kept sheet own ann own-weighed ∙ ap (λ (a : AfterFind). record { answer = Verdict.Found Yes; annotation = a .annotation }) (sym (found c e))
 
     passed : judgeOf sheet own (findOf sheet book ann .annotation) ≡ Verdict.Found Yes
-    passed =
-        ap (λ (a : AfterAnnotate). judgeOf sheet own (a .annotation)) (sym agrees)
-        ∙ second-demand sheet s (unrefused .0) .annotation-passes own ann c own-read (unrefused .1) (the-first c e .keeps)
+    passed = ap (λ (a : AfterAnnotate). judgeOf sheet own (a .annotation)) (sym agrees) ∙ passes-judge sheet own ann own-weighed
 
   pub third-demand : demand-3 sheet book ann s not-refused
   third-demand = record {
@@ -127,6 +133,8 @@ module _ (sheet book ann : List ℕ) (s : Sheet) (not-refused : findSheet sheet 
         (padded-is-choice (s .architecture) bounds c (good .architecture) choice);
     otherwise = λ n. tables (firstChoice s) refl n;
     choices-listed = choices-in-order (s .architecture) (good .architecture);
+    valid-exists = λ c choice. valid-exactly-where-kept s c good choice;
+    valid-bounded = λ c choice. valid-bounded s c good choice;
     passes-judge = λ q. let r = answer-tables (firstChoice s) refl q in passed (r .0) (r .1);
     annotate-agrees = λ q. let r = answer-tables (firstChoice s) refl q in agrees (r .0) (r .1);
   }

@@ -19,7 +19,7 @@ use Rattle.model.specs.SheetFile.{processBytes, edgeBytes, statesBytes, 
 use Rattle.model.specs.SheetFile.{Faulty, wrong-first-mark, bad-architecture, wrong-mark-behind-front, bad-process, no-owner-or-too-many, bad-automaton}
 use Rattle.model.specs.SheetFile.{wrong-mark-behind-edges, bad-edge, byte-behind-end, BeginsFaulty}
 use Rattle.model.proofs.Refusing.{stop, go}
-use Rattle.model.proofs.ProperSheet.{states-proper, opening-proper, process-more, front-whole}
+use Rattle.model.proofs.ProperSheet.{opening-proper, process-more, front-whole, no-edge-proper}
 use Rattle.model.proofs.RecordMore.{edge-more}
 use Rattle.model.proofs.FaultsExact.{front-faultless}
 use Rattle.model.proofs.RecordAt.{At, behind, length-at, long-enough, marked-at}
@@ -32,19 +32,6 @@ use Rattle.model.proofs.SheetReads.{front-refused, automaton-refused, f
 passed : {P : Type 0} (t : Bool) → (t ≡ false → P) → ¬ P → t ≡ true
 passed true f n = refl
 passed false f n = absurd (n (f refl))
-
--- an automaton's states without fault, before its edges
-states-alone : (variables : ℕ) (u : Automaton) → u .edges ≡ [] → auFault (u .states) (u .initial) (u .rejecting) ≡ false → ProperAutomaton variables u
-states-alone variables u none f =
-    let h = states-proper (u .states) (u .initial) (u .rejecting) f in
-    record {
-      some-states = h .0;
-      few-states = h .1;
-      initial-known = h .2;
-      rejecting-known = h .3;
-      few-edges = omega (arith, ap length none);
-      edges-proper = rw none (λ e m. absurd (List·Memᴰ·not-nil m));
-    }
 
 -- ---- a mark of two bytes that is another one
 other-mark : {y z v w : ℕ} → ¬ (y ∷ z ∷ [] ≡ v ∷ w ∷ []) → (eqb y v && eqb z w) ≡ false
@@ -152,7 +139,7 @@ module _ (a : Architecture) (u : Automaton) (x b : List ℕ) (e : b ≡ frontByt
       states-reached BadAutomaton
       (states-next b (length (frontBytes a)) a u x states-there (h .some-process)
       ∙ go NoOwnerOrTooMany _ (front-faultless a h)
-      ∙ stop BadAutomaton _ (passed (auFault (u .states) (u .initial) (u .rejecting)) (states-alone (a .variables) u none) n))
+      ∙ stop BadAutomaton _ (passed (auFault (u .states) (u .initial) (u .rejecting)) (no-edge-proper (a .variables) u none) n))
 
 edge-bad : (s : Sheet) (q : Edge) (x b : List ℕ) → b ≡ recordsBytes s ++ (edgeBytes q ++ x) → ProperSheet s → length (s .automaton .edges) < 64
     → ¬ ProperAutomaton (s .architecture .variables) (withEdge (s .automaton) q) → readSheet b ≡ refused BadEdge

@@ -30,7 +30,7 @@ then-end (entry ∷ ps) (v ∷ c) = rw (then-end ps c)
 
 module _ (sheet : List ℕ) (s : Sheet) (is-proper : readSheet sheet ≡ proper s) (book c : List ℕ) (is-read : readBook (s .architecture) book ≡ proper c) where
   -- a part of a proper book is not refused
-  part-is : (i : ℕ) → i < length (s .architecture .processes)
+  pub part-is : (i : ℕ) → i < length (s .architecture .processes)
       → partOf sheet book i ≡ record { answer = Reply.Done; start = partStart (s .architecture .processes) i; end = partEnd (s .architecture .processes) i }
   unfolding partOf partArchitecture partFor cut _then_ refuse_when_else_ noProcess
   part-is i l = simp (is-proper, lt-leb (length (s .architecture .processes)) i l, is-read)

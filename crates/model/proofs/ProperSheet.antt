@@ -44,7 +44,7 @@ below-bit : (m n : ℕ) → beyond m n ≡ false → m < 2 ^ n
 unfolding beyond
 below-bit m n e = leb-false (2 ^ n) m e
 
-same-proper : {A : Type 0} (x y : A) → proper x ≡ proper y → x ≡ y
+pub same-proper : {A : Type 0} (x y : A) → proper x ≡ proper y → x ≡ y
 same-proper x y e = cc
 
 -- ---- the fields of a record without fault
@@ -90,6 +90,19 @@ states-proper states initial rejecting f =
     let h₃ = or-false (eqb states 0) (ltb 16 states) (h₂ .0) in
     let n : ¬ (states ≡ 0) = eqb-false _ _ (h₃ .0) in
     (omega arith, ltb-false _ _ (h₃ .1), leb-false _ _ (h₂ .1), below-bit _ _ (h₁ .1))
+
+-- AU alone, without a fault
+pub no-edge-proper : (variables : ℕ) (u : Automaton) → u .edges ≡ [] → auFault (u .states) (u .initial) (u .rejecting) ≡ false → ProperAutomaton variables u
+no-edge-proper variables u none f =
+    let s = states-proper (u .states) (u .initial) (u .rejecting) f in
+    record {
+      some-states = s .0;
+      few-states = s .1;
+      initial-known = s .2;
+      rejecting-known = s .3;
+      few-edges = omega (arith, ap length none);
+      edges-proper = rw none (λ x m. absurd (List·Memᴰ·not-nil m));
+    }
 
 -- AR, with no process behind it yet
 pub opening-proper : (a : Architecture) → a .processes ≡ [] → arFault a ≡ false → ProperFront a

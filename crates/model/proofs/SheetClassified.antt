@@ -15,7 +15,7 @@ use Rattle.model.specs.Sheet.{Architecture, Automaton, Sheet, ProperFron
 use Rattle.model.specs.Reading.{Reading, refused, proper, byte, short, marked, AU, PR, allFault, auFault, readEdges, readAutomaton, readFront, readSheet, refuse_when_else_, _then_}
 use Rattle.model.specs.SheetFile.{statesBytes, frontBytes, sheetBytes, Bytes, FollowsFront, Unfinished, BeginsFaulty}
 use Rattle.model.specs.SheetFile.{in-mark-behind-front, in-states, wrong-mark-behind-front, no-owner-or-too-many, bad-automaton}
-use Rattle.model.proofs.ProperSheet.{or-false, states-proper, front-whole}
+use Rattle.model.proofs.ProperSheet.{or-false, no-edge-proper, front-whole}
 use Rattle.model.proofs.FaultsExact.{front-faultless, states-faultless}
 use Rattle.model.proofs.BytesRead.{row-longer, drop-mark, drop-four, left-short, is-whole, markAt, mark-stands, mark-differs}
 use Rattle.model.proofs.RecordMore.{records-alone, low-byte, high-byte}
@@ -26,19 +26,6 @@ use Rattle.model.proofs.EdgesClassified.{Written, Completes, withEdges,
 -- the fields of the AU at i, with no edge yet
 abbrev statesAt : List ℕ → ℕ → Automaton
 statesAt b i = record { states = byte b (i + 2); initial = byte b (i + 3); rejecting = byte b (i + 4) + 256 * byte b (i + 5); edges = [] }
-
--- AU alone, without a fault
-no-edge-proper : (variables : ℕ) (u : Automaton) → u .edges ≡ [] → auFault (u .states) (u .initial) (u .rejecting) ≡ false → ProperAutomaton variables u
-no-edge-proper variables u none f =
-    let s = states-proper (u .states) (u .initial) (u .rejecting) f in
-    record {
-      some-states = s .0;
-      few-states = s .1;
-      initial-known = s .2;
-      rejecting-known = s .3;
-      few-edges = omega (arith, ap length none);
-      edges-proper = rw none (λ x m. absurd (List·Memᴰ·not-nil m));
-    }
 
 -- the automaton makes of a the sheet whose writing the row is
 abbrev Completed : List ℕ → Architecture → Automaton → Type 0

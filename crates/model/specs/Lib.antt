@@ -9,5 +9,6 @@ pub mod Computed
 pub mod Book
 pub mod Calls
 pub mod Numbers
+pub mod Refusals
 pub mod Demands
 pub mod BenchCases

@@ -19,7 +19,7 @@ pub exact-refusals : demand-1
 exact-refusals = first-demand
 
 -- 2: judging is the published definition; a written book reads back as the same tables, and each proper book is the only writing of its tables
-pub exact-verdicts : (sheet : List ℕ) (s : Sheet) (is-proper : readSheet sheet ≡ proper s) → demand-2 sheet s is-proper
+pub exact-verdicts : demand-2
 exact-verdicts = second-demand
 
 -- 3: `none` exactly when every choice has a reachable rejecting loop; otherwise the first choice without one, with the exact annotation
