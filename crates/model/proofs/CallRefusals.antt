@@ -102,10 +102,12 @@ tests-find sheet book ann r (FindRefused.short-annotation s e l m) = then-read _
 -- ---- judge and annotate: 10, 11, then 9
 judge-tests : (sheet book ann : List ℕ) (r : Refusal) → bookAndRoom sheet book ann ≡ refused r → JudgeRefused sheet book ann r
 unfolding bookAndRoom bookFor roomFor annotationShort
-judge-tests sheet book ann r e = ⊎-elim (λ q. JudgeRefused.by-sheet r q) (λ h. tables (h .0) (h .1) (refused-then (readBook (h .0 .architecture) book) _ r (h .2))) (refused-then (readSheet sheet) _ r e)
+judge-tests sheet book ann r e =
+    ⊎-elim (λ q. JudgeRefused.by-sheet r q) (λ h. tables (h .0) (h .1) (refused-then (readBook (h .0 .architecture) book) _ r (h .2))) (refused-then (readSheet sheet) _ r e)
   where
     short : (s : Sheet) (c : List ℕ) → readSheet sheet ≡ proper s → readBook (s .architecture) book ≡ proper c
-        → ((annotationShort s ann ≡ true) × (AnnotationBufferTooShort ≡ r)) ⊎ ((annotationShort s ann ≡ false) × (_≡_ {A = Reading Chosen} (proper record { sheet = s; choice = c }) (refused r))) → JudgeRefused sheet book ann r
+        → ((annotationShort s ann ≡ true) × (AnnotationBufferTooShort ≡ r)) ⊎ ((annotationShort s ann ≡ false) × (_≡_ {A = Reading Chosen} (proper record { sheet = s; choice = c }) (refused r)))
+        → JudgeRefused sheet book ann r
     short s c p q (inl h) =
         let k = read-choice (s .architecture) book c q in
         subst (JudgeRefused sheet book ann) (h .1) (JudgeRefused.short-annotation s c p (choice-formed (s .architecture) book c (k .0) (k .1)) (k .0) (ltb-true _ _ (h .0)))

@@ -61,7 +61,8 @@ module _ (sheet book ann : List ℕ) where
       }
 
   -- what holds of a weighed sheet and choice may be exchanged
-  exchanged : {P Q : Sheet → List ℕ → Type 0} (w : Weighed sheet book ann P) → (ProperSheet (w .read) → IsChoice (w .read .architecture) (w .choice) → Q (w .read) (w .choice)) → Weighed sheet book ann Q
+  exchanged : {P Q : Sheet → List ℕ → Type 0} (w : Weighed sheet book ann P)
+      → (ProperSheet (w .read) → IsChoice (w .read .architecture) (w .choice) → Q (w .read) (w .choice)) → Weighed sheet book ann Q
   exchanged w f = record {
     read = w .read;
     choice = w .choice;
@@ -135,7 +136,8 @@ module _ (sheet book ann : List ℕ) where
   says-yes : (judgeOf sheet book ann ≡ Verdict.Found Yes) ↔ Weighed sheet book ann (λ s c. Valid s c (λ v. getD ann v blank))
   says-yes = (
     λ e. let w = was-judged Yes e in exchanged w (λ good choice. valid-exactly (w .read) (w .choice) good choice ann .0 (test-yes (valid (w .read) (w .choice) ann) .0 (w .holds))),
-    λ w. judge-is w ∙ ap Verdict.Found (test-yes (valid (w .read) (w .choice) ann) .1 (valid-exactly (w .read) (w .choice) (sheet-proper sheet (w .read) (w .is-proper)) (w .is-choice) ann .1 (w .holds))),
+    λ w. judge-is w
+        ∙ ap Verdict.Found (test-yes (valid (w .read) (w .choice) ann) .1 (valid-exactly (w .read) (w .choice) (sheet-proper sheet (w .read) (w .is-proper)) (w .is-choice) ann .1 (w .holds))),
   )
 
   says-no : (judgeOf sheet book ann ≡ Verdict.Found No) ↔ Weighed sheet book ann (λ s c. ¬ Valid s c (λ v. getD ann v blank))

@@ -18,7 +18,8 @@ all-append : (j : ℕ) (before ps : List Process) → allRecords j (before ++ ps
 unfolding allRecords
 all-append j [] ps = ap (λ (n : ℕ). allRecords n ps) (sym (add-zero j))
 all-append j (q ∷ before) ps =
-    ap (λ (l : List Slot). records j q (q .bound) 0 ++ l) (all-append (suc j) before ps ∙ ap (λ (n : ℕ). allRecords (suc j) before ++ allRecords n ps) (suc-add j (length before) ∙ sym (add-suc j (length before))))
+    ap (λ (l : List Slot). records j q (q .bound) 0 ++ l)
+    (all-append (suc j) before ps ∙ ap (λ (n : ℕ). allRecords (suc j) before ++ allRecords n ps) (suc-add j (length before) ∙ sym (add-suc j (length before))))
     ∙ sym (append-assoc (records j q (q .bound) 0) (allRecords (suc j) before) (allRecords (j + suc (length before)) ps))
 
 -- where the part of the process behind these starts, and where it ends
@@ -58,8 +59,10 @@ module _ (a : Architecture) (before : List Process) (p : Process) (after : List 
   unfolding form allRecords own rest
   form-split =
       ap (λ (ps : List Process). allRecords 0 ps ++ (due (byte EN 0) ∷ due (byte EN 1) ∷ [])) whole
-      ∙ ap (λ (l : List Slot). l ++ (due (byte EN 0) ∷ due (byte EN 1) ∷ [])) (all-append 0 before (p ∷ after) ∙ ap (λ (n : ℕ). allRecords 0 before ++ allRecords n (p ∷ after)) (zero-plus (length before)))
-      ∙ ap (λ (l : List Slot). l ++ (due (byte EN 0) ∷ due (byte EN 1) ∷ [])) (sym (append-assoc (allRecords 0 before) (records (length before) p (p .bound) 0) (allRecords (suc (length before)) after)))
+      ∙ ap (λ (l : List Slot). l ++ (due (byte EN 0) ∷ due (byte EN 1) ∷ []))
+      (all-append 0 before (p ∷ after) ∙ ap (λ (n : ℕ). allRecords 0 before ++ allRecords n (p ∷ after)) (zero-plus (length before)))
+      ∙ ap (λ (l : List Slot). l ++ (due (byte EN 0) ∷ due (byte EN 1) ∷ []))
+      (sym (append-assoc (allRecords 0 before) (records (length before) p (p .bound) 0) (allRecords (suc (length before)) after)))
       ∙ append-assoc (allRecords 0 before ++ records (length before) p (p .bound) 0) (allRecords (suc (length before)) after) (due (byte EN 0) ∷ due (byte EN 1) ∷ [])
     where
       zero-plus : (n : ℕ) → 0 + n ≡ n
