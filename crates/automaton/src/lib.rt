@@ -1,7 +1,7 @@
 // A universal co-Büchi automaton: what AU and the ED records of a sheet say.
 ghost use mathlib.Core.Path.{_≡_};
-ghost use mathlib.Core.List.{[], _∷_, _++_};
-ghost use Prim.Native.Nat.{_+_, _<_, _≤_};
+ghost use mathlib.Core.List.{[]};
+ghost use Prim.Native.Nat.{_+_, _<_};
 ghost use Rattle.model.specs.Sheet as model;
 ghost use Rattle.model.specs.RunGraph.{meets};
 ghost use Rattle.automaton.specs.Struct.{Arrays, edgeOf, edgeIn, automatonOf};

@@ -1,7 +1,7 @@
 // What is wrong with the fields of a record: the conditions of the refusals 3 to 7.
 ghost use mathlib.Core.Path.{_≡_};
 ghost use mathlib.Core.List.{[]};
-ghost use Prim.Native.Nat.{_+_, _-_, _^_, _≤_};
+ghost use Prim.Native.Nat.{_-_, _^_, _≤_};
 ghost use Rattle.theory.specs.Lists.{all, from};
 ghost use Rattle.model.specs.Mask.{bit, beyond};
 ghost use Rattle.model.specs.Sheet.{composedStates};
