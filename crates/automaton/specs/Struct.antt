@@ -10,7 +10,7 @@ use Rattle.automaton.specs.declared.Automaton.{Automaton}
 
 -- the edge of the struct
 abbrev pub edgeOf : Edge → model.Edge
-edgeOf e = record { from = e .from; to = e .to; on = e .on; off = e .off }
+edgeOf e = record { from = e .from .0; to = e .to .0; on = e .on; off = e .off }
 
 -- entry i of four arrays, as an edge
 abbrev pub edgeAt : List ℕ → List ℕ → List ℕ → List ℕ → ℕ → model.Edge
@@ -32,7 +32,7 @@ firstIn u n = edgesOf n (u .from) (u .to) (u .on) (u .off)
 -- the automaton of the struct
 unfoldable pub automatonOf : Automaton → model.Automaton
 unfolding edgesOf
-automatonOf u = record { states = u .states; initial = u .initial; rejecting = u .rejecting; edges = firstIn u (u .edges) }
+automatonOf u = record { states = u .states; initial = u .initial .0; rejecting = u .rejecting; edges = firstIn u (u .edges) }
 
 -- the struct's arrays are whole, and its count is one of their lengths
 pub record Arrays (u : Automaton) : Type 0 where

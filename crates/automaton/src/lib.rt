@@ -1,23 +1,24 @@
 // A universal co-Büchi automaton: what AU and the ED records of a sheet say.
 ghost use mathlib.Core.Path.{_≡_};
-ghost use mathlib.Core.List.{[], _∷_, _++_};
-ghost use Prim.Native.Nat.{_+_, _<_, _≤_};
+ghost use mathlib.Core.List.{[]};
+ghost use Prim.Native.Nat.{_+_, _<_};
 ghost use Rattle.model.specs.Sheet as model;
 ghost use Rattle.model.specs.RunGraph.{meets};
 ghost use Rattle.automaton.specs.Struct.{Arrays, edgeOf, edgeIn, automatonOf};
+use model::AutomatonState;
 
 // Between automaton states, met by a label with all of `on` and none of `off`.
 pub struct Edge {
-    pub from: u8,
-    pub to: u8,
+    pub from: AutomatonState,
+    pub to: AutomatonState,
     pub on: u8,
     pub off: u8,
 }
 
-// The first `edges` of from, to, on and off count.
+// The first `edges` of from, to, on and off count. The entries of `from` and `to` are bytes: `edge` makes automaton states of them at once.
 pub struct Automaton {
     pub states: u8,
-    pub initial: u8,
+    pub initial: AutomatonState,
     pub rejecting: u16,
     pub edges: usize,
     pub from: [u8; 64],
@@ -40,8 +41,8 @@ impl Edge {
 
 impl Automaton {
     // AU, with no edge yet.
-    pub fn opened(states: u8, initial: u8, rejecting: u16) -> Automaton
-        ensures { λ r. ⌜ automatonOf r ≡ record { states = states; initial = initial; rejecting = rejecting; edges = [] } ⌝ }
+    pub fn opened(states: u8, initial: AutomatonState, rejecting: u16) -> Automaton
+        ensures { λ r. ⌜ automatonOf r ≡ record { states = states; initial = initial .0; rejecting = rejecting; edges = [] } ⌝ }
         ensures { λ r. ⌜ Arrays r × (r .edges ≡ 0) ⌝ }
     {
         Automaton {
@@ -64,15 +65,15 @@ impl Automaton {
         ensures { λ r. ⌜ Arrays r × (r .edges ≡ self .edges + 1) ⌝ }
     {
         let n = self.edges;
-        self.from[n] = edge.from;
-        self.to[n] = edge.to;
+        self.from[n] = edge.from.0;
+        self.to[n] = edge.to.0;
         self.on[n] = edge.on;
         self.off[n] = edge.off;
         self.edges = n + 1;
         self
     }
 
-    // Edge i.
+    // Edge i, its states made of the two bytes.
     pub fn edge(self, i: usize) -> Edge
         requires { ⌜ Arrays self ⌝ }
         requires { ⌜ i < self .edges ⌝ }
@@ -83,8 +84,8 @@ impl Automaton {
         let on = self.on;
         let off = self.off;
         Edge {
-            from: from[i],
-            to: to[i],
+            from: AutomatonState(from[i]),
+            to: AutomatonState(to[i]),
             on: on[i],
             off: off[i],
         }

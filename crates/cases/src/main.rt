@@ -26,7 +26,7 @@ use sheets::bounded;
 
 // The arbiter: found, and its book annotated, read, written again and parted. There is no process 1.
 fn case_a() {
-    let sheet = CASE_A;
+    let sheet = sheet::sheet_a();
     let book = BOOK_A;
     check(b"A", &sheet);
     find(b"A", &sheet, 20, 32);

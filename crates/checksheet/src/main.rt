@@ -32,7 +32,8 @@ fn check_file(path: &[u8]) {
 
 fn main() {
     if os::arg_count() < 2 {
-        print(planner::check(&sheet::CASE_A));
+        let sheet = sheet::sheet_a();
+        print(planner::check(&sheet));
         return;
     }
     let mut path = io::buffer();

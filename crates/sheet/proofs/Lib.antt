@@ -6,4 +6,3 @@ pub mod OneProcessMore
 pub mod ReadingOn
 pub mod ReadingEdges
 pub mod AnswersOfReading
-pub mod CaseA

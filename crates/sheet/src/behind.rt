@@ -19,6 +19,7 @@ use super::faults::ed_fault;
 use super::is_marked;
 use automaton::Automaton;
 use automaton::Edge;
+use model::AutomatonState;
 use model::Refusal;
 use model::Reply;
 
@@ -55,8 +56,8 @@ fn read_edge(sheet: &[u8], at: usize, variables: u8, so_far: Automaton) -> Autom
         return refuse(Refusal::SheetTooShort, so_far);
     }
     let edge = Edge {
-        from: sheet[at + 2],
-        to: sheet[at + 3],
+        from: AutomatonState(sheet[at + 2]),
+        to: AutomatonState(sheet[at + 3]),
         on: sheet[at + 4],
         off: sheet[at + 5],
     };
@@ -121,7 +122,7 @@ fn read_states(sheet: &[u8], at: usize, variables: u8) -> AutomatonRead
     ensures { λ r. ⌜ AutomatonReads r (statesFrom variables (now (sheet .entry)) at) ⌝ }
 {
     let states = sheet[at + 2];
-    let initial = sheet[at + 3];
+    let initial = AutomatonState(sheet[at + 3]);
     let rejecting = two_bytes(sheet[at + 4], sheet[at + 5]);
     let automaton = Automaton::opened(states, initial, rejecting);
     if au_fault(states, initial, rejecting) {
@@ -146,7 +147,7 @@ pub fn read_automaton(sheet: &[u8], front: FrontRead) -> AutomatonRead
     requires { ⌜ FrontKnown (now sheet) front ⌝ }
     ensures { λ r. ⌜ AutomatonReads r (readAutomaton (architectureOf (front .architecture)) (now (sheet .entry)) (front .end)) ⌝ }
 {
-    let nothing = Automaton::opened(0, 0, 0);
+    let nothing = Automaton::opened(0, AutomatonState(0), 0);
     let at = front.end;
     let architecture = front.architecture;
     if sheet.len() - at < 2 {

@@ -1,7 +1,7 @@
 // What is wrong with the fields of a record: the conditions of the refusals 3 to 7.
 ghost use mathlib.Core.Path.{_≡_};
 ghost use mathlib.Core.List.{[]};
-ghost use Prim.Native.Nat.{_+_, _-_, _^_, _≤_};
+ghost use Prim.Native.Nat.{_-_, _^_, _≤_};
 ghost use Rattle.theory.specs.Lists.{all, from};
 ghost use Rattle.model.specs.Mask.{bit, beyond};
 ghost use Rattle.model.specs.Sheet.{composedStates};
@@ -11,6 +11,7 @@ ghost use Rattle.automaton.specs.Struct.{edgeOf};
 ghost use Rattle.sheet.specs.Struct.{outputsOf};
 use architecture::Architecture;
 use automaton::Edge;
+use model::AutomatonState;
 
 // The mask has a bit at or above n.
 fn is_beyond(mask: u16, n: u8) -> bool
@@ -96,8 +97,8 @@ pub fn all_fault(architecture: Architecture, owned: u8, total: u16) -> bool
     256 < total
 }
 
-pub fn au_fault(states: u8, initial: u8, rejecting: u16) -> bool
-    ensures { λ r. ⌜ r ≡ auFault states initial rejecting ⌝ }
+pub fn au_fault(states: u8, initial: AutomatonState, rejecting: u16) -> bool
+    ensures { λ r. ⌜ r ≡ auFault states (initial .0) rejecting ⌝ }
 {
     if states == 0 {
         return true;
@@ -105,7 +106,7 @@ pub fn au_fault(states: u8, initial: u8, rejecting: u16) -> bool
     if 16 < states {
         return true;
     }
-    if states <= initial {
+    if states <= initial.0 {
         return true;
     }
     is_beyond(rejecting, states)
@@ -115,10 +116,10 @@ pub fn ed_fault(variables: u8, states: u8, edge: Edge) -> bool
     requires { ⌜ variables ≤ 8 ⌝ }
     ensures { λ r. ⌜ r ≡ edFault variables states (edgeOf edge) ⌝ }
 {
-    if states <= edge.from {
+    if states <= edge.from.0 {
         return true;
     }
-    if states <= edge.to {
+    if states <= edge.to.0 {
         return true;
     }
     if is_beyond(edge.on as u16, variables) {

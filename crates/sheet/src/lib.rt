@@ -4,6 +4,8 @@ ghost use Prim.Native.Nat.{_≤_};
 ghost use lib.ListN.{length};
 ghost use Rattle.model.specs.declared.Reply.{Reply};
 ghost use Rattle.model.specs.Reading.{marked, readFront, readSheet};
+ghost use Rattle.model.specs.Calls.{reply};
+ghost use Rattle.model.specs.BenchCases.{sheetA};
 ghost use Rattle.sheet.specs.Struct.{Arrays, FrontKnown, frontOf, readingOf};
 
 mod behind;
@@ -17,6 +19,7 @@ use faults::ar_fault;
 use front::opened;
 use front::read_processes;
 use front::refuse;
+use model::AutomatonState;
 use model::Refusal;
 use model::Reply;
 
@@ -100,7 +103,7 @@ pub fn read(sheet: &[u8]) -> Reading
     let architecture = front.architecture;
     let answer = front.answer;
     if let Reply::Refused(_) = answer {
-        let automaton = Automaton::opened(0, 0, 0);
+        let automaton = Automaton::opened(0, AutomatonState(0), 0);
         return Reading {
             answer,
             sheet: Sheet {
@@ -128,9 +131,10 @@ pub const CASE_A: [u8; 60] = *b"\
     ED\x00\x02\x02\x00ED\x01\x01\x00\x04ED\x02\x02\x00\x08\
     ED\x03\x03\x00\x00EN";
 
-// Case A is a proper sheet.
-pub fn read_case_a() -> Reading
-    ensures { λ r. ⌜ r .answer ≡ Reply.Done ⌝ }
+// The computed test of this table, which as a constant has no contract: it is case A of the definitions, and reads as a proper sheet.
+pub fn sheet_a() -> [u8; 60]
+    ensures { λ r. ⌜ r ≡ sheetA 2 ⌝ }
+    ensures { λ r. ⌜ reply (readSheet r) ≡ Reply.Done ⌝ }
 {
-    read(&CASE_A)
+    CASE_A
 }

@@ -9,11 +9,11 @@ use Rattle.sheet.proofs.read.Tie as tie
 read-front-requires : tie.Need-read-front-requires
 read-front-requires c κs = search needs
 
--- `let automaton = Automaton::opened(0, 0, 0)`
+-- `let automaton = Automaton::opened(0, AutomatonState(0), 0)`
 enum-told : tie.Need-enum-told
 enum-told c = search needs
 
--- `let automaton = Automaton::opened(0, 0, 0)`
+-- `let automaton = Automaton::opened(0, AutomatonState(0), 0)`
 opened-requires : tie.Need-opened-requires
 opened-requires c κs = search needs
 
@@ -25,7 +25,7 @@ returns c =
     let refused = front-refused _ (f .result .answer) (f .result .architecture) (f .result .end) (f .ensures .0) (told .0 .0) (told .1) in
     (sheet-refused _ _ (f .result .answer) (told .0 .0) (told .1) refused, record { architecture = f .ensures .1 .arrays; automaton = c .opened .ensures .1 .0 })
 
--- `let automaton = Automaton::opened(0, 0, 0)`
+-- `let automaton = Automaton::opened(0, AutomatonState(0), 0)`
 enum-told-2 : tie.Need-enum-told-2
 enum-told-2 c = search needs
 

@@ -9,11 +9,11 @@ use Rattle.automaton.proofs.Edges.{edges-more}
 use Rattle.automaton.proofs.Automaton.with_edge.Statement.{statement}
 use Rattle.automaton.proofs.Automaton.with_edge.Tie as tie
 
--- `self.from[n] = edge.from`
+-- `self.from[n] = edge.from.0`
 element-write-self : tie.Need-element-write-self
 element-write-self c = search needs
 
--- `self.to[n] = edge.to`
+-- `self.to[n] = edge.to.0`
 element-write-self-2 : tie.Need-element-write-self-2
 element-write-self-2 c = search needs
 
@@ -37,7 +37,7 @@ returns c =
     let e = c .args .edge in
     let z = c .pre .0 in (
       rw
-          (edges-more (u .edges) (u .from) (u .to) (u .on) (u .off) (e .from) (e .to) (e .on) (e .off) (omega arith) (omega arith) (omega arith) (omega arith)),
+          (edges-more (u .edges) (u .from) (u .to) (u .on) (u .off) (e .from .0) (e .to .0) (e .on) (e .off) (omega arith) (omega arith) (omega arith) (omega arith)),
       (
         record {
           few-edges = omega arith;

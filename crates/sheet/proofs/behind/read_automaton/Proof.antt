@@ -65,7 +65,7 @@ long : (c : tie.Else3) → let s = marking (c .before) in short (bytes s) (at s)
 long c = let s = marking (c .before) in enough (bytes s) (at s) 6 (known s .inside) (c .if3 .left)
 
 -- ---- the needs
--- `let nothing = Automaton::opened(0, 0, 0)`
+-- `let nothing = Automaton::opened(0, AutomatonState(0), 0)`
 opened-requires : tie.Need-opened-requires
 opened-requires c κs = search needs
 

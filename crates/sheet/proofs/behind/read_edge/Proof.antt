@@ -45,37 +45,37 @@ returns : tie.Need-returns
 unfolding edgeFrom
 returns c = let s = c .before .before .before in reads-as (c .refuse .ensures) (sym (stop _ _ (too-few (bytes s) (at s) 6 (c .before .if1 .taken))))
 
--- `from: sheet[at + 2]`
+-- `from: AutomatonState(sheet[at + 2])`
 add-t7 : tie.Need-add-t7
 add-t7 c = search needs
 
--- `from: sheet[at + 2]`
+-- `from: AutomatonState(sheet[at + 2])`
 shared-slice-read-t12 : tie.Need-shared-slice-read-t12
 shared-slice-read-t12 c = search needs
 
--- `to: sheet[at + 3]`
+-- `to: AutomatonState(sheet[at + 3])`
 add-t8 : tie.Need-add-t8
 add-t8 c = search needs
 
--- `to: sheet[at + 3]`
-shared-slice-read-t14 : tie.Need-shared-slice-read-t14
-shared-slice-read-t14 c = search needs
+-- `to: AutomatonState(sheet[at + 3])`
+shared-slice-read-t15 : tie.Need-shared-slice-read-t15
+shared-slice-read-t15 c = search needs
 
 -- `on: sheet[at + 4]`
-add-t15 : tie.Need-add-t15
-add-t15 c = search needs
+add-t17 : tie.Need-add-t17
+add-t17 c = search needs
 
 -- `on: sheet[at + 4]`
-shared-slice-read-t17 : tie.Need-shared-slice-read-t17
-shared-slice-read-t17 c = search needs
+shared-slice-read-t19 : tie.Need-shared-slice-read-t19
+shared-slice-read-t19 c = search needs
 
 -- `off: sheet[at + 5]`
-add-t18 : tie.Need-add-t18
-add-t18 c = search needs
+add-t20 : tie.Need-add-t20
+add-t20 c = search needs
 
 -- `off: sheet[at + 5]`
-shared-slice-read-t20 : tie.Need-shared-slice-read-t20
-shared-slice-read-t20 c = search needs
+shared-slice-read-t22 : tie.Need-shared-slice-read-t22
+shared-slice-read-t22 c = search needs
 
 -- `if ed_fault(variables, so_far.states, edge)`
 ed-fault-requires : tie.Need-ed-fault-requires
@@ -114,11 +114,11 @@ read-edge-spec =
     add-t7
     shared-slice-read-t12
     add-t8
-    shared-slice-read-t14
-    add-t15
-    shared-slice-read-t17
-    add-t18
-    shared-slice-read-t20
+    shared-slice-read-t15
+    add-t17
+    shared-slice-read-t19
+    add-t20
+    shared-slice-read-t22
     ed-fault-requires
     refuse-requires-2
     returns-2

@@ -50,19 +50,11 @@ add-states c = search needs
 shared-slice-read-states : tie.Need-shared-slice-read-states
 shared-slice-read-states c = search needs
 
--- `let initial = sheet[at + 3]`
-add-initial : tie.Need-add-initial
-add-initial c = search needs
-
--- `let initial = sheet[at + 3]`
-shared-slice-read-initial : tie.Need-shared-slice-read-initial
-shared-slice-read-initial c = search needs
-
--- `let rejecting = two_bytes(sheet[at + 4], sheet[at + 5])`
+-- `let initial = AutomatonState(sheet[at + 3])`
 add-two-bytes : tie.Need-add-two-bytes
 add-two-bytes c = search needs
 
--- `let rejecting = two_bytes(sheet[at + 4], sheet[at + 5])`
+-- `let initial = AutomatonState(sheet[at + 3])`
 shared-slice-read-two-bytes : tie.Need-shared-slice-read-two-bytes
 shared-slice-read-two-bytes c = search needs
 
@@ -73,6 +65,14 @@ add-two-bytes-2 c = search needs
 -- `let rejecting = two_bytes(sheet[at + 4], sheet[at + 5])`
 shared-slice-read-two-bytes-2 : tie.Need-shared-slice-read-two-bytes-2
 shared-slice-read-two-bytes-2 c = search needs
+
+-- `let rejecting = two_bytes(sheet[at + 4], sheet[at + 5])`
+add-two-bytes-3 : tie.Need-add-two-bytes-3
+add-two-bytes-3 c = search needs
+
+-- `let rejecting = two_bytes(sheet[at + 4], sheet[at + 5])`
+shared-slice-read-two-bytes-3 : tie.Need-shared-slice-read-two-bytes-3
+shared-slice-read-two-bytes-3 c = search needs
 
 -- `let rejecting = two_bytes(sheet[at + 4], sheet[at + 5])`
 two-bytes-requires : tie.Need-two-bytes-requires
@@ -118,12 +118,12 @@ read-states-spec =
     (tie.spec
     add-states
     shared-slice-read-states
-    add-initial
-    shared-slice-read-initial
     add-two-bytes
     shared-slice-read-two-bytes
     add-two-bytes-2
     shared-slice-read-two-bytes-2
+    add-two-bytes-3
+    shared-slice-read-two-bytes-3
     two-bytes-requires
     opened-requires
     au-fault-requires

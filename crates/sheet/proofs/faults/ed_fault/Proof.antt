@@ -22,10 +22,10 @@ second c = c .before .before
 abbrev third : tie.After-is-beyond2 → tie.Else3
 third c = c .before .before
 
-from-known : (c : tie.Else1) → leb (entry c .args .states) (entry c .args .edge .from) ≡ false
+from-known : (c : tie.Else1) → leb (entry c .args .states) (entry c .args .edge .from .0) ≡ false
 from-known c = lt-leb _ _ (c .if1 .left)
 
-to-known : (c : tie.Else2) → let a = entry (first c) .args in leb (a .states) (a .edge .to) ≡ false
+to-known : (c : tie.Else2) → let a = entry (first c) .args in leb (a .states) (a .edge .to .0) ≡ false
 to-known c = lt-leb _ _ (c .if2 .left)
 
 on-known : (c : tie.Else3) → let a = entry (first (second (c .before))) .args in beyond (a .edge .on) (a .variables) ≡ false
