@@ -10,6 +10,7 @@ use automaton::Automaton;
 use automaton::Edge;
 use libc::STDIN_FILENO;
 use libc::STDOUT_FILENO;
+use model::AutomatonState;
 use model::ProcessState;
 use model::Refusal;
 use model::Reply;
@@ -39,20 +40,24 @@ fn print_mask(mask: u8) {
     print(&[DIGITS[high], DIGITS[low]]);
 }
 
-// The front of a line for an arrow, up to the text of its label.
-fn open_arrow(from: usize, to: usize) {
-    print(b"    ");
-    print_number(from);
-    print(b" -> ");
-    print_number(to);
-    print(b" [label=\"");
-}
-
 fn close_arrow() {
     print(b"\"];\n");
 }
 
 // ---- the automaton
+fn print_automaton_state(q: AutomatonState) {
+    print_number(q.0 as usize);
+}
+
+// The front of the line for an arrow from p to q, up to the text of its label.
+fn open_edge(p: AutomatonState, q: AutomatonState) {
+    print(b"    ");
+    print_automaton_state(p);
+    print(b" -> ");
+    print_automaton_state(q);
+    print(b" [label=\"");
+}
+
 // One variable of a label; one space parts it from those before it.
 fn print_variable(is_first: bool, sign: &[u8], variable: usize) {
     if !is_first {
@@ -88,7 +93,9 @@ fn print_label(on: u8, off: u8) {
 }
 
 fn draw_edge(edge: Edge) {
-    open_arrow(edge.from as usize, edge.to as usize);
+    let from = AutomatonState(edge.from);
+    let to = AutomatonState(edge.to);
+    open_edge(from, to);
     print_label(edge.on, edge.off);
     close_arrow();
 }
@@ -103,9 +110,9 @@ fn draw_edges(automaton: Automaton)
     }
 }
 
-fn draw_state(q: usize, is_rejecting: bool) {
+fn draw_state(q: AutomatonState, is_rejecting: bool) {
     print(b"    ");
-    print_number(q);
+    print_automaton_state(q);
     if is_rejecting {
         print(b" [shape=doublecircle];\n");
         return;
@@ -113,11 +120,12 @@ fn draw_state(q: usize, is_rejecting: bool) {
     print(b" [shape=circle];\n");
 }
 
+// The counter runs up to the count of the states, and is made an automaton state for each.
 fn draw_states(states: u8, rejecting: u16) {
     let mut left = rejecting;
     let mut q: u8 = 0;
     while q < states {
-        draw_state(q as usize, left % 2 == 1);
+        draw_state(AutomatonState(q), left % 2 == 1);
         left /= 2;
         q += 1;
     }
@@ -127,8 +135,9 @@ fn draw_states(states: u8, rejecting: u16) {
 fn draw_automaton(automaton: Automaton)
     requires { ⌜ Arrays automaton ⌝ }
 {
+    let initial = AutomatonState(automaton.initial);
     print(b"digraph automaton {\n    rankdir=LR;\n    start [shape=point];\n    start -> ");
-    print_number(automaton.initial as usize);
+    print_automaton_state(initial);
     print(b";\n");
     draw_states(automaton.states, automaton.rejecting);
     draw_edges(automaton);
@@ -136,8 +145,21 @@ fn draw_automaton(automaton: Automaton)
 }
 
 // ---- the tables
+fn print_process_state(x: ProcessState) {
+    print_number(x.0 as usize);
+}
+
+// The front of the line for an arrow from x to y, up to the text of its label.
+fn open_arrow(x: ProcessState, y: ProcessState) {
+    print(b"    ");
+    print_process_state(x);
+    print(b" -> ");
+    print_process_state(y);
+    print(b" [label=\"");
+}
+
 // One index that leads from state x to y: the first opens the line, the others are parted by a space.
-fn print_index(is_first: bool, x: usize, y: usize, index: usize) {
+fn print_index(is_first: bool, x: ProcessState, y: ProcessState, index: usize) {
     if is_first {
         open_arrow(x, y);
     } else {
@@ -146,12 +168,13 @@ fn print_index(is_first: bool, x: usize, y: usize, index: usize) {
     print_number(index);
 }
 
-// One arrow for all indexes that lead from state x to y; none where no index does.
-fn draw_arrow(x: usize, y: usize, next: &[u8]) {
+// One arrow for all indexes that lead from state x to y; none where no index does. The next states are bytes, and each is made a process state here.
+fn draw_arrow(x: ProcessState, y: ProcessState, next: &[u8]) {
     let mut is_first = true;
     let mut index: usize = 0;
     while index < next.len() {
-        if next[index] as usize == y {
+        let to = ProcessState(next[index]);
+        if to.0 == y.0 {
             print_index(is_first, x, y, index);
             is_first = false;
         }
@@ -162,42 +185,43 @@ fn draw_arrow(x: usize, y: usize, next: &[u8]) {
     }
 }
 
-// The arrows from state x.
-fn draw_arrows(x: usize, bound: usize, next: &[u8]) {
-    let mut y: usize = 0;
+// The arrows from state x. The counter runs up to the bound, and is made a process state for each.
+fn draw_arrows(x: ProcessState, bound: u8, next: &[u8]) {
+    let mut y: u8 = 0;
     while y < bound {
-        draw_arrow(x, y, next);
+        draw_arrow(x, ProcessState(y), next);
         y += 1;
     }
 }
 
 // State x has its output mask below its number.
-fn draw_row(x: usize, bound: usize, row: &[u8])
+fn draw_row(x: ProcessState, bound: u8, row: &[u8])
     requires { ⌜ 0 < length (now row) ⌝ }
 {
     print(b"    ");
-    print_number(x);
+    print_process_state(x);
     print(b" [label=\"");
-    print_number(x);
+    print_process_state(x);
     print(b"\\n");
     print_mask(row[0]);
     print(b"\"];\n");
     draw_arrows(x, bound, &row[1..]);
 }
 
-// The rows of process i.
+// The rows of process i. The counter runs up to the bound, and is made a process state for each row.
 fn draw_rows(a: Architecture, i: usize, tables: &[u8])
     requires { ⌜ IsProper a ⌝ }
     requires { ⌜ i < a .processes ⌝ }
     requires { ⌜ length (entriesOf (architectureOf a)) ≤ length (now tables) ⌝ }
 {
     let row = architecture::row_length(a.inputs_of(i));
-    let bound = a.bound_of(i);
-    let mut x: usize = 0;
+    let bound = a.bound_of(i) as u8;
+    let mut x: u8 = 0;
     while x < bound {
-        let from = a.row_at(i, ProcessState(x as u8));
+        let state = ProcessState(x);
+        let from = a.row_at(i, state);
         let end = from + row;
-        draw_row(x, bound, &tables[from..end]);
+        draw_row(state, bound, &tables[from..end]);
         x += 1;
     }
 }

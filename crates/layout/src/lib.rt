@@ -7,6 +7,7 @@ ghost use Rattle.architecture.specs.Struct.{IsProper, architectureOf};
 ghost use Rattle.append.specs.Appends.{Appends};
 ghost use Rattle.layout.specs.Slots.{slotsOf, recordCodes, processCodes};
 use architecture::Architecture;
+use model::ProcessState;
 
 // The mark of a book's record.
 pub const TB: [u8; 2] = *b"TB";
@@ -18,7 +19,7 @@ fn due(byte: u8) -> u16
     byte as u16 + 1
 }
 
-// A small number, as the word of the byte that is due.
+// A process's number, as the word of the byte that is due.
 fn due_number(n: usize) -> u16
     requires { ⌜ n < 4 ⌝ }
     ensures { λ r. ⌜ r ≡ suc n ⌝ }
@@ -27,19 +28,19 @@ fn due_number(n: usize) -> u16
 }
 
 // The record of process i for its state x.
-fn put_record(slots: &mut [u16], at: usize, i: usize, x: usize, row: usize) -> usize
+fn put_record(slots: &mut [u16], at: usize, i: usize, x: ProcessState, row: usize) -> usize
     requires { ⌜ at + (4 + row) ≤ length (now slots) ⌝ }
-    requires { ⌜ (i < 4) × (x < 4) ⌝ }
-    ensures { λ r. ⌜ Appends (now (slots .entry)) at (recordCodes i x row) r (now (slots .exit)) ⌝ }
+    requires { ⌜ i < 4 ⌝ }
+    ensures { λ r. ⌜ Appends (now (slots .entry)) at (recordCodes i (x .0) row) r (now (slots .exit)) ⌝ }
 {
     let within_mark = append::word(slots, at, due(TB[0]));
     let after_mark = append::word(slots, within_mark, due(TB[1]));
     let after_process = append::word(slots, after_mark, due_number(i));
-    let after_state = append::word(slots, after_process, due_number(x));
+    let after_state = append::word(slots, after_process, due(x.0));
     append::fill(slots, after_state, 0, row)
 }
 
-// All records of process i.
+// All records of process i. The counter runs up to the bound, and is made a process state for each record.
 fn put_records(slots: &mut [u16], start: usize, a: Architecture, i: usize) -> usize
     requires { ⌜ IsProper a ⌝ }
     requires { ⌜ i < a .processes ⌝ }
@@ -51,7 +52,7 @@ fn put_records(slots: &mut [u16], start: usize, a: Architecture, i: usize) -> us
     let mut at = start;
     let mut x: usize = 0;
     while x < bound {
-        at = put_record(slots, at, i, x, row);
+        at = put_record(slots, at, i, ProcessState(x as u8), row);
         x += 1;
     }
     at

@@ -81,16 +81,16 @@ fn put_line(text: &mut [u8], at: usize, word: &[u8], n: usize) -> usize
     put(text, after_number, b'\n')
 }
 
-// A space and a number.
-fn put_field(text: &mut [u8], at: usize, n: usize) -> usize
-    requires { ⌜ at + length (spec.field n) ≤ length (now text) ⌝ }
-    ensures { λ r. ⌜ Appends (now (text .entry)) at (spec.field n) r (now (text .exit)) ⌝ }
+// A space and a state of the process.
+fn put_field(text: &mut [u8], at: usize, x: ProcessState) -> usize
+    requires { ⌜ at + length (spec.field (x .0)) ≤ length (now text) ⌝ }
+    ensures { λ r. ⌜ Appends (now (text .entry)) at (spec.field (x .0)) r (now (text .exit)) ⌝ }
 {
     let next = put(text, at, b' ');
-    put_decimal(text, next, n)
+    put_decimal(text, next, x.0 as usize)
 }
 
-// The next states of a row, which stand behind its output mask.
+// The next states of a row, which stand behind its output mask. They are bytes, and each is made a process state here.
 fn put_next(text: &mut [u8], start: usize, row: &[u8]) -> usize
     requires { ⌜ start + length (spec.fields (drop 1 (now row))) ≤ length (now text) ⌝ }
     ensures { λ r. ⌜ Appends (now (text .entry)) start (spec.fields (drop 1 (now (row .entry)))) r (now (text .exit)) ⌝ }
@@ -98,16 +98,16 @@ fn put_next(text: &mut [u8], start: usize, row: &[u8]) -> usize
     let mut at = start;
     let mut k: usize = 1;
     while k < row.len() {
-        at = put_field(text, at, row[k] as usize);
+        at = put_field(text, at, ProcessState(row[k]));
         k += 1;
     }
     at
 }
 
 // The front of a row: process, state and output mask.
-fn put_head(text: &mut [u8], at: usize, i: usize, x: usize, mask: u8) -> usize
-    requires { ⌜ at + length (spec.decimal i ++ spec.field x ++ spec.space ++ spec.hex mask) ≤ length (now text) ⌝ }
-    ensures { λ r. ⌜ Appends (now (text .entry)) at (spec.decimal i ++ spec.field x ++ spec.space ++ spec.hex mask) r (now (text .exit)) ⌝ }
+fn put_head(text: &mut [u8], at: usize, i: usize, x: ProcessState, mask: u8) -> usize
+    requires { ⌜ at + length (spec.decimal i ++ spec.field (x .0) ++ spec.space ++ spec.hex mask) ≤ length (now text) ⌝ }
+    ensures { λ r. ⌜ Appends (now (text .entry)) at (spec.decimal i ++ spec.field (x .0) ++ spec.space ++ spec.hex mask) r (now (text .exit)) ⌝ }
 {
     let after_process = put_decimal(text, at, i);
     let after_state = put_field(text, after_process, x);
@@ -116,17 +116,17 @@ fn put_head(text: &mut [u8], at: usize, i: usize, x: usize, mask: u8) -> usize
 }
 
 // The row of process i for its state x.
-fn put_row(text: &mut [u8], at: usize, i: usize, x: usize, row: &[u8]) -> usize
-    requires { ⌜ at + length (spec.rowText i x (now row)) ≤ length (now text) ⌝ }
+fn put_row(text: &mut [u8], at: usize, i: usize, x: ProcessState, row: &[u8]) -> usize
+    requires { ⌜ at + length (spec.rowText i (x .0) (now row)) ≤ length (now text) ⌝ }
     requires { ⌜ 0 < length (now row) ⌝ }
-    ensures { λ r. ⌜ Appends (now (text .entry)) at (spec.rowText i x (now (row .entry))) r (now (text .exit)) ⌝ }
+    ensures { λ r. ⌜ Appends (now (text .entry)) at (spec.rowText i (x .0) (now (row .entry))) r (now (text .exit)) ⌝ }
 {
     let after_head = put_head(text, at, i, x, row[0]);
     let after_next = put_next(text, after_head, row);
     put(text, after_next, b'\n')
 }
 
-// All rows of process i.
+// All rows of process i. The counter runs up to the bound, and is made a process state for each row.
 fn put_rows(text: &mut [u8], start: usize, a: Architecture, i: usize, tables: &[u8]) -> usize
     requires { ⌜ IsProper a ⌝ }
     requires { ⌜ i < a .processes ⌝ }
@@ -139,9 +139,10 @@ fn put_rows(text: &mut [u8], start: usize, a: Architecture, i: usize, tables: &[
     let mut at = start;
     let mut x: usize = 0;
     while x < bound {
-        let from = a.row_at(i, ProcessState(x as u8));
+        let state = ProcessState(x as u8);
+        let from = a.row_at(i, state);
         let end = from + row;
-        at = put_row(text, at, i, x, &tables[from..end]);
+        at = put_row(text, at, i, state, &tables[from..end]);
         x += 1;
     }
     at

@@ -1,6 +1,5 @@
 -- `draw::draw_arrow` is safe and ends: the indexes that are left fall.
 use Prim.Native.Nat.{_-_}
-use native.Mathlib.Omega.{arith}
 use lib.ListN.{length}
 use borrow.Author.Needs.{needs}
 use Rattle.draw.proofs.draw_arrow.Statement.{statement}
@@ -16,13 +15,9 @@ abbrev μ-loop : tie.MeasureT-loop
 loop-holds : tie.Need-loop-holds Inv-loop μ-loop
 loop-holds c = search needs
 
--- `if next[index] as usize == y`
-shared-slice-read-if1 : tie.Need-shared-slice-read-if1 Inv-loop μ-loop
-shared-slice-read-if1 c = search needs
-
--- `if next[index] as usize == y`
-cast-if1 : tie.Need-cast-if1 Inv-loop μ-loop
-cast-if1 c = omega (arith, c .shared-slice-known2 .given (c .before .before .loop .index))
+-- `let to = ProcessState(next[index])`
+shared-slice-read-t10 : tie.Need-shared-slice-read-t10 Inv-loop μ-loop
+shared-slice-read-t10 c = search needs
 
 -- `print_index(is_first, x, y, index)`
 print-index-requires : tie.Need-print-index-requires Inv-loop μ-loop
@@ -59,8 +54,7 @@ draw-arrow-spec =
     Inv-loop
     μ-loop
     loop-holds
-    shared-slice-read-if1
-    cast-if1
+    shared-slice-read-t10
     print-index-requires
     add-index
     loop-less

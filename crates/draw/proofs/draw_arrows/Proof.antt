@@ -14,7 +14,7 @@ abbrev μ-loop : tie.MeasureT-loop
 loop-holds : tie.Need-loop-holds Inv-loop μ-loop
 loop-holds c = search needs
 
--- `draw_arrow(x, y, next)`
+-- `draw_arrow(x, ProcessState(y), next)`
 draw-arrow-requires : tie.Need-draw-arrow-requires Inv-loop μ-loop
 draw-arrow-requires c κs = search needs
 

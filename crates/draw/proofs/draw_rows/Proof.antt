@@ -36,9 +36,13 @@ inputs-of-requires c κs = search needs
 row-length-requires : tie.Need-row-length-requires Inv-loop μ-loop
 row-length-requires c κs = search needs
 
--- `let bound = a.bound_of(i)`
+-- `let bound = a.bound_of(i) as u8`
 bound-of-requires : tie.Need-bound-of-requires Inv-loop μ-loop
 bound-of-requires c κs = search needs
+
+-- `let bound = a.bound_of(i) as u8`
+cast-bound : tie.Need-cast-bound Inv-loop μ-loop
+cast-bound c = let b = c .before .before .before .before in omega (arith, c .bound-of .ensures, facts (b .pre .0) .few-states (b .args .i) (b .pre .1 .0))
 
 -- `while x < bound`
 loop-holds : tie.Need-loop-holds Inv-loop μ-loop
@@ -57,11 +61,7 @@ loop-holds c =
       within = λ x h. omega (arith, e, row-within a i x counts (omega (arith, c .bound-of .ensures)), s .pre .1 .1);
     }
 
--- `let from = a.row_at(i, ProcessState(x as u8))`
-cast-t11 : tie.Need-cast-t11 Inv-loop μ-loop
-cast-t11 c = omega (arith, c .before .loop .inv .few)
-
--- `let from = a.row_at(i, ProcessState(x as u8))`
+-- `let from = a.row_at(i, state)`
 row-at-requires : tie.Need-row-at-requires Inv-loop μ-loop
 row-at-requires c κs = let r = c .before .loop .inv in (r .sized, (r .counts, omega (arith, r .all)))
 
@@ -74,19 +74,19 @@ inside c = omega (arith, c .row-at .ensures, c .before .before .loop .inv .withi
 add-end : tie.Need-add-end Inv-loop μ-loop
 add-end c = omega (arith, inside c)
 
--- `draw_row(x, bound, &tables[from..end])`
+-- `draw_row(state, bound, &tables[from..end])`
 sub-draw-row : tie.Need-sub-draw-row Inv-loop μ-loop
 sub-draw-row c = search needs
 
--- `draw_row(x, bound, &tables[from..end])`
+-- `draw_row(state, bound, &tables[from..end])`
 part-draw-row-start : tie.Need-part-draw-row-start Inv-loop μ-loop
 part-draw-row-start c = search needs
 
--- `draw_row(x, bound, &tables[from..end])`
+-- `draw_row(state, bound, &tables[from..end])`
 part-draw-row-end : tie.Need-part-draw-row-end Inv-loop μ-loop
 part-draw-row-end c = inside c
 
--- `draw_row(x, bound, &tables[from..end])`
+-- `draw_row(state, bound, &tables[from..end])`
 draw-row-requires : tie.Need-draw-row-requires Inv-loop μ-loop
 draw-row-requires c κs = simp (length-take, length-drop) (omega (arith, inside (c .before), c .before .before .before .loop .inv .some))
 
@@ -115,8 +115,8 @@ draw-rows-spec =
     inputs-of-requires
     row-length-requires
     bound-of-requires
+    cast-bound
     loop-holds
-    cast-t11
     row-at-requires
     add-end
     sub-draw-row

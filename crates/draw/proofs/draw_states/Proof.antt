@@ -14,11 +14,7 @@ abbrev μ-loop : tie.MeasureT-loop
 loop-holds : tie.Need-loop-holds Inv-loop μ-loop
 loop-holds c = search needs
 
--- `draw_state(q as usize, left % 2 == 1)`
-cast-draw-state : tie.Need-cast-draw-state Inv-loop μ-loop
-cast-draw-state c = search needs
-
--- `draw_state(q as usize, left % 2 == 1)`
+-- `draw_state(AutomatonState(q), left % 2 == 1)`
 draw-state-requires : tie.Need-draw-state-requires Inv-loop μ-loop
 draw-state-requires c κs = search needs
 
@@ -45,7 +41,6 @@ draw-states-spec =
     Inv-loop
     μ-loop
     loop-holds
-    cast-draw-state
     draw-state-requires
     add-q
     loop-less

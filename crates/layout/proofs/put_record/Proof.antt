@@ -36,11 +36,11 @@ due-number-requires c κs = search needs
 word-requires-3 : tie.Need-word-requires-3
 word-requires-3 c κs = search needs
 
--- `let after_state = append::word(slots, after_process, due_number(x))`
-due-number-requires-2 : tie.Need-due-number-requires-2
-due-number-requires-2 c κs = search needs
+-- `let after_state = append::word(slots, after_process, due(x.0))`
+due-requires-3 : tie.Need-due-requires-3
+due-requires-3 c κs = search needs
 
--- `let after_state = append::word(slots, after_process, due_number(x))`
+-- `let after_state = append::word(slots, after_process, due(x.0))`
 word-requires-4 : tie.Need-word-requires-4
 word-requires-4 c κs = search needs
 
@@ -61,7 +61,7 @@ returns c =
     let opening = mark .before .before .before .before .before in
     let two = append-more (opening .word .ensures) (mark .word2 .ensures) in
     let four = append-more (append-more two (process .word3 .ensures)) (state .word4 .ensures) in
-    rw (← opening .before .due .ensures, ← mark .before .due2 .ensures, ← process .before .due-number .ensures, ← state .before .due-number2 .ensures)
+    rw (← opening .before .due .ensures, ← mark .before .due2 .ensures, ← process .before .due-number .ensures, ← state .before .due3 .ensures)
     (append-more four (c .before .before .fill .ensures))
 
 pub put-record-spec : {M : Type 1} → statement M
@@ -76,7 +76,7 @@ put-record-spec =
     word-requires-2
     due-number-requires
     word-requires-3
-    due-number-requires-2
+    due-requires-3
     word-requires-4
     fill-requires
     same-length

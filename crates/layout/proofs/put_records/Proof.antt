@@ -75,13 +75,21 @@ module _ (c : tie.In-loop Inv-loop μ-loop) (q : Process) (er : c .before .befor
       Opens (map slotCode (records i q (q .bound - x) x)) (recordCodes i x (c .before .before .before .row-length .result)) (map slotCode (records i q (q .bound - (x + 1)) (x + 1)))
   next = records-open (entry (c .before) .args .i) q (q .bound) (c .before .loop .x) _ er inside
 
--- `at = put_record(slots, at, i, x, row)`
+-- the state is one of four
+small : (c : tie.In-loop Inv-loop μ-loop) → c .before .loop .x < 4
+small c = let l = c .before in omega (arith, inside c (p l) (row-known l) (l .before .bound-of .ensures), few l)
+
+-- `at = put_record(slots, at, i, ProcessState(x as u8), row)`
+cast-t13 : tie.Need-cast-t13 Inv-loop μ-loop
+cast-t13 c = omega (arith, small (c .before))
+
+-- `at = put_record(slots, at, i, ProcessState(x as u8), row)`
 put-record-requires : tie.Need-put-record-requires Inv-loop μ-loop
 put-record-requires c κs =
     let l = c .before .before in
     let room = appending-room (so-far l) (entry l .pre .1 .1) (next (c .before) (p l) (row-known l) (l .before .bound-of .ensures)) in (
       omega (arith, room, length-replicate {A = ℕ} (l .before .before .row-length .result) 0),
-      (omega (arith, entry l .pre .1 .0, entry l .pre .0 .arrays .few-processes), omega (arith, inside (c .before) (p l) (row-known l) (l .before .bound-of .ensures), few l)),
+      omega (arith, entry l .pre .1 .0, entry l .pre .0 .arrays .few-processes),
     )
 
 -- `x += 1`
@@ -118,6 +126,7 @@ put-records-spec =
     row-length-requires
     bound-of-requires
     loop-holds
+    cast-t13
     put-record-requires
     add-x
     loop-less

@@ -22,15 +22,11 @@ loop-holds c = appending-none _ _ _
 abbrev entry : tie.At-loop Inv-loop μ-loop → tie.Start Inv-loop μ-loop
 entry c = c .before .before .before
 
--- `at = put_field(text, at, row[k] as usize)`
-shared-slice-read-put-field : tie.Need-shared-slice-read-put-field Inv-loop μ-loop
-shared-slice-read-put-field c = omega arith
+-- `at = put_field(text, at, ProcessState(row[k]))`
+shared-slice-read-t11 : tie.Need-shared-slice-read-t11 Inv-loop μ-loop
+shared-slice-read-t11 c = omega arith
 
--- `at = put_field(text, at, row[k] as usize)`
-cast-put-field : tie.Need-cast-put-field Inv-loop μ-loop
-cast-put-field c = omega (arith, c .shared-slice-known2 .given (c .before .before .before .loop .k))
-
--- `at = put_field(text, at, row[k] as usize)`
+-- `at = put_field(text, at, ProcessState(row[k]))`
 put-field-requires : tie.Need-put-field-requires Inv-loop μ-loop
 put-field-requires c κs =
     let l = c .before .before .before in
@@ -69,8 +65,7 @@ put-next-spec =
     Inv-loop
     μ-loop
     loop-holds
-    shared-slice-read-put-field
-    cast-put-field
+    shared-slice-read-t11
     put-field-requires
     add-k
     loop-less

@@ -62,11 +62,11 @@ module _ (c : tie.In-loop Inv-loop μ-loop) where
   few : c .before .loop .x < 4
   few = let b = entry (c .before) in omega (arith, state, facts (b .pre .0) .few-states (b .args .i) (b .pre .1 .0))
 
--- `let from = a.row_at(i, ProcessState(x as u8))`
-cast-t14 : tie.Need-cast-t14 Inv-loop μ-loop
-cast-t14 c = omega (arith, few c)
+-- `let state = ProcessState(x as u8)`
+cast-t15 : tie.Need-cast-t15 Inv-loop μ-loop
+cast-t15 c = omega (arith, few c)
 
--- `let from = a.row_at(i, ProcessState(x as u8))`
+-- `let from = a.row_at(i, state)`
 row-at-requires : tie.Need-row-at-requires Inv-loop μ-loop
 row-at-requires c κs = let b = entry (c .before) in (b .pre .0, (b .pre .1 .0, state c))
 
@@ -112,19 +112,19 @@ module _ (c : tie.After-row-at Inv-loop μ-loop) where
 add-end : tie.Need-add-end Inv-loop μ-loop
 add-end c = omega (arith, inside c, start c .good)
 
--- `at = put_row(text, at, i, x, &tables[from..end])`
+-- `at = put_row(text, at, i, state, &tables[from..end])`
 sub-put-row : tie.Need-sub-put-row Inv-loop μ-loop
 sub-put-row c = omega arith
 
--- `at = put_row(text, at, i, x, &tables[from..end])`
+-- `at = put_row(text, at, i, state, &tables[from..end])`
 part-put-row-start : tie.Need-part-put-row-start Inv-loop μ-loop
 part-put-row-start c = omega arith
 
--- `at = put_row(text, at, i, x, &tables[from..end])`
+-- `at = put_row(text, at, i, state, &tables[from..end])`
 part-put-row-end : tie.Need-part-put-row-end Inv-loop μ-loop
 part-put-row-end c = inside (c .before)
 
--- `at = put_row(text, at, i, x, &tables[from..end])`
+-- `at = put_row(text, at, i, state, &tables[from..end])`
 put-row-requires : tie.Need-put-row-requires Inv-loop μ-loop
 put-row-requires c κs =
     let r = c .before .before in
@@ -171,7 +171,7 @@ put-rows-spec =
     row-length-requires
     bound-of-requires
     loop-holds
-    cast-t14
+    cast-t15
     row-at-requires
     add-end
     sub-put-row
