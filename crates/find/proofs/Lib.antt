@@ -1,3 +1,4 @@
 -- the laws that the proofs of the functions cite
 pub mod FoundBuffers
 pub mod WholeFile
+pub mod PrintedA

@@ -1,7 +1,9 @@
--- 01, "Bench cases": their sheets, and the books and annotations that are named there.
+-- 01, "Bench cases": their sheets, and the books, annotations and text that are named there; and a sheet of the greatest size.
 use mathlib.Core.List.{List, [], _∷_, _++_}
 use Prim.Native.Nat.{ℕ}
 use lib.ListN.{replicate}
+use Rattle.model.specs.Sheet.{Process, Edge, Sheet}
+use Rattle.model.specs.SheetFile.{sheetBytes}
 use Rattle.model.specs.RunGraph.{blank}
 
 -- A's AU, seven ED and EN
@@ -42,6 +44,14 @@ bookA = 0x54 ∷ 0x42 ∷ 0x00 ∷ 0x00 ∷ 0x04 ∷ 0x01 ∷ 0x01 ∷ 0x01 ∷ 
 abbrev pub annotationA : List ℕ
 annotationA = replicate 8 0 ++ replicate 4 2 ++ replicate 4 1 ++ replicate 4 1 ++ replicate 4 2 ++ replicate 8 blank
 
+-- what the finding program prints for A: its four lines in ASCII, each with its line feed
+abbrev pub textA : List ℕ
+textA =
+    0x74 ∷ 0x61 ∷ 0x62 ∷ 0x6C ∷ 0x65 ∷ 0x73 ∷ 0x20 ∷ 0x32 ∷ 0x0A
+    ∷ 0x30 ∷ 0x20 ∷ 0x30 ∷ 0x20 ∷ 0x30 ∷ 0x34 ∷ 0x20 ∷ 0x31 ∷ 0x20 ∷ 0x31 ∷ 0x20 ∷ 0x31 ∷ 0x20 ∷ 0x31 ∷ 0x0A
+    ∷ 0x30 ∷ 0x20 ∷ 0x31 ∷ 0x20 ∷ 0x30 ∷ 0x38 ∷ 0x20 ∷ 0x30 ∷ 0x20 ∷ 0x30 ∷ 0x20 ∷ 0x30 ∷ 0x20 ∷ 0x30 ∷ 0x0A
+    ∷ 0x67 ∷ 0x72 ∷ 0x65 ∷ 0x61 ∷ 0x74 ∷ 0x65 ∷ 0x73 ∷ 0x74 ∷ 0x20 ∷ 0x32 ∷ 0x0A ∷ []
+
 -- D's book: each process grants in one of its two states, and they take turns
 abbrev pub bookD : List ℕ
 bookD =
@@ -51,3 +61,24 @@ bookD =
 -- E's book
 abbrev pub bookE : List ℕ
 bookE = 0x54 ∷ 0x42 ∷ 0 ∷ 0 ∷ 0 ∷ 0 ∷ 0x45 ∷ 0x4E ∷ []
+
+-- ---- the greatest sizes
+-- four inputs, two outputs and four states
+abbrev full : ℕ → ℕ → Process
+full inputs outputs = record { inputs = inputs; outputs = outputs; bound = 4 }
+
+-- 8 variables, none of the environment; four processes that own two each and read four of the others; 16 automaton states, 64 edges
+unfoldable pub largest : Sheet
+largest = record {
+  architecture = record { variables = 8; environment = 0; root = 0; processes = full 0x3C 0x03 ∷ full 0xF0 0x0C ∷ full 0xC3 0x30 ∷ full 0x0F 0xC0 ∷ [] };
+  automaton = record { states = 16; initial = 15; rejecting = 0xFFFF; edges = replicate 64 (record { from = 15; to = 0; on = 0x0F; off = 0xF0 }) };
+}
+
+-- its bytes
+unfoldable pub longest : List ℕ
+unfolding sheetBytes largest
+longest = sheetBytes largest
+
+-- a choice of it: no process grants anything, and all stay in state 0
+unfoldable pub longestChoice : List ℕ
+longestChoice = replicate 272 0

@@ -1,2 +1,3 @@
 pub mod CaseA
 pub mod EveryRow
+pub mod EveryExample

@@ -3,12 +3,12 @@ use mathlib.Core.Path.{_≡_}
 use mathlib.Core.List.{List, [], _∷_, _++_}
 use Prim.Native.Nat.{ℕ}
 use lib.ListN.{replicate}
-use Rattle.model.specs.declared.Refusal.the-variants.{SheetTooShort, WrongMark}
 use Rattle.model.specs.declared.Finding.the-variants.{Yes, No}
 use Rattle.model.specs.declared.Verdict.{Verdict}
 use Rattle.model.specs.declared.Reply.{Reply}
 use Rattle.model.specs.declared.Outcome.{Outcome}
 use Rattle.model.specs.Calls.{AfterFind, checkOf, findOf, judgeOf, annotateOf}
+use Rattle.model.specs.Numbers.{replyCode}
 use Rattle.model.specs.BenchCases.{sheetA, sheetC, sheetE, edge, bookA, annotationA, bookD, bookE}
 
 -- a lent buffer of this length: it holds 7
@@ -21,13 +21,17 @@ pub data Row : Type 0 where
   judge : (sheet book annotation : List ℕ) → Verdict → Row
   annotate : (sheet book : List ℕ) (annotation : ℕ) → Verdict → Row
   check : (sheet : List ℕ) → Reply → Row
+  refuses : (sheet : List ℕ) → ℕ → Row
+  refuses-behind : (sheet : List ℕ) → ℕ → Row
 
--- the call answers, and leaves in find's buffers, what is expected
+-- the call answers, and leaves in find's buffers, what is expected; a refusal gives its number, and the last for a sheet with any byte behind it
 abbrev pub Holds : Row → Type 0
 Holds (find sheet book annotation after) = findOf sheet (buffer book) (buffer annotation) ≡ after
 Holds (judge sheet book annotation verdict) = judgeOf sheet book annotation ≡ verdict
 Holds (annotate sheet book annotation verdict) = annotateOf sheet book (buffer annotation) .answer ≡ verdict
 Holds (check sheet reply) = checkOf sheet ≡ reply
+Holds (refuses sheet n) = replyCode (checkOf sheet) ≡ n
+Holds (refuses-behind sheet n) = (x : ℕ) → replyCode (checkOf (sheet ++ (x ∷ []))) ≡ n
 
 infixr 20 _and_
 -- every row of a table holds
@@ -48,6 +52,10 @@ found book annotation = record { answer = Outcome.Tables; book = book; annotatio
 -- A: the arbiter. The buffers are longer by one than they need to be
 abbrev pub rowA : Row
 rowA = find (sheetA 2) 21 33 (found (bookA ++ buffer 1) (annotationA ++ buffer 1))
+
+-- I: A and one more byte, whichever
+abbrev pub rowI : Row
+rowI = refuses-behind (sheetA 2) 2
 
 -- all rows
 abbrev pub starred : List Row
@@ -76,7 +84,7 @@ starred =
     ∷ judge (sheetE 1 2 2 (edge 0 1)) bookE (0 ∷ 0 ∷ []) (Verdict.Found No)
     ∷ judge (sheetE 1 2 2 (edge 0 1)) bookE (0 ∷ 1 ∷ []) (Verdict.Found Yes)
     -- I: an empty sheet; the byte 41 alone; A and one more byte
-    ∷ check [] (Reply.Refused SheetTooShort)
-    ∷ check (0x41 ∷ []) (Reply.Refused SheetTooShort)
-    ∷ check (sheetA 2 ++ (0 ∷ [])) (Reply.Refused WrongMark)
+    ∷ refuses [] 1
+    ∷ refuses (0x41 ∷ []) 1
+    ∷ rowI
     ∷ []

@@ -1,0 +1,66 @@
+-- Every example holds, by computation.
+use mathlib.Core.Path.{refl}
+use Rattle.model.specs.Mask.{pack}
+use Rattle.model.specs.Compose.{label, step, initial, T, number, composed}
+use Rattle.model.specs.Choice.{entries, lowered, padded}
+use Rattle.model.specs.RunGraph.{start, meets}
+use Rattle.model.specs.Computed.{successors}
+use Rattle.model.specs.Calls.{checkOf, findOf, judgeOf, annotateOf, writeOf, readOf, partOf}
+use Rattle.starred.specs.Examples.{Pinned}
+
+pub every-example : Pinned
+unfolding pack label step initial T number composed entries lowered padded start meets successors checkOf findOf judgeOf annotateOf writeOf readOf partOf
+every-example = record {
+  index-rises = refl;
+  index-of-eight = refl;
+  states-multiply = refl;
+  numbered = refl;
+  unnumbered = refl;
+  root-kept = refl;
+  labelled = refl;
+  stepped = refl;
+  entries-in-order = refl;
+  zeros-behind = refl;
+  nothing-behind = refl;
+  never-raised = refl;
+  starts = refl;
+  on-needs-all = refl;
+  off-needs-none = refl;
+  follows = refl;
+  counts-each = refl;
+  on-the-way = refl;
+  unreached = refl;
+  longer-loop = refl;
+  greatest-number = refl;
+  start-numbered = refl;
+  successor-numbered = refl;
+  no-lower = refl;
+  everywhere = refl;
+  nine-variables = refl;
+  five-of-environment = refl;
+  bound-0 = refl;
+  bound-5 = refl;
+  five-inputs = refl;
+  at-most-256 = refl;
+  above-256 = refl;
+  seventeen-states = refl;
+  shared-bit = refl;
+  book-buffer-short = refl;
+  annotation-buffer-short = refl;
+  book-before-entries = refl;
+  output-outside = refl;
+  next-at-bound = refl;
+  entries-before-room = refl;
+  write-entries-first = refl;
+  write-room = refl;
+  longer-book = refl;
+  tables-read = refl;
+  none-read = refl;
+  part-sheet-first = refl;
+  part-process-next = refl;
+  part-book-last = refl;
+  code-none = refl;
+  code-tables = refl;
+  code-no = refl;
+  code-yes = refl;
+}
