@@ -1,15 +1,15 @@
 -- Every example holds, by computation.
 use mathlib.Core.Path.{refl}
 use Rattle.model.specs.Mask.{pack}
-use Rattle.model.specs.Compose.{label, step, initial, T, number, composed}
-use Rattle.model.specs.Choice.{entries, lowered, padded}
+use Rattle.model.specs.Compose.{step, initial, T, number, composed}
+use Rattle.model.specs.Choice.{entries, lowered, padRows, padded}
 use Rattle.model.specs.RunGraph.{start, meets}
 use Rattle.model.specs.Computed.{successors}
 use Rattle.model.specs.Calls.{checkOf, findOf, judgeOf, annotateOf, writeOf, readOf, partOf}
 use Rattle.starred.specs.Examples.{Pinned}
 
 pub every-example : Pinned
-unfolding pack label step initial T number composed entries lowered padded start meets successors checkOf findOf judgeOf annotateOf writeOf readOf partOf
+unfolding pack step initial T number composed entries lowered padRows padded start meets successors checkOf findOf judgeOf annotateOf writeOf readOf partOf
 every-example = record {
   index-rises = refl;
   index-of-eight = refl;
@@ -17,14 +17,12 @@ every-example = record {
   numbered = refl;
   unnumbered = refl;
   root-kept = refl;
-  labelled = refl;
   stepped = refl;
   entries-in-order = refl;
   zeros-behind = refl;
-  nothing-behind = refl;
+  own-rows = refl;
   never-raised = refl;
   starts = refl;
-  on-needs-all = refl;
   off-needs-none = refl;
   follows = refl;
   counts-each = refl;
@@ -38,11 +36,13 @@ every-example = record {
   everywhere = refl;
   nine-variables = refl;
   five-of-environment = refl;
+  root-bit-unknown = refl;
   bound-0 = refl;
   bound-5 = refl;
   five-inputs = refl;
   at-most-256 = refl;
   above-256 = refl;
+  five-before-six = refl;
   seventeen-states = refl;
   shared-bit = refl;
   book-buffer-short = refl;
@@ -56,7 +56,6 @@ every-example = record {
   longer-book = refl;
   tables-read = refl;
   none-read = refl;
-  part-sheet-first = refl;
   part-process-next = refl;
   part-book-last = refl;
   code-none = refl;
