@@ -22,8 +22,6 @@ const SHEET_ROOM: usize = 418;
 // One byte more than the longest book, so that one that is too long is seen.
 const BOOK_ROOM: usize = 339;
 
-const DIGITS: [u8; 16] = *b"0123456789ABCDEF";
-
 // ---- bytes and numbers
 fn print(text: &[u8]) {
     io::write_all(STDOUT_FILENO, text);
@@ -33,41 +31,23 @@ fn print_number(n: usize) {
     io::print_decimal(STDOUT_FILENO, n as u64);
 }
 
-// A mask, in two hexadecimal digits.
-fn print_mask(mask: u8) {
-    let high = (mask / 16) as usize;
-    let low = (mask % 16) as usize;
-    print(&[DIGITS[high], DIGITS[low]]);
-}
-
+// The end of a line for an arrow, behind the text of its label.
 fn close_arrow() {
     print(b"\"];\n");
 }
 
-// ---- the automaton
-fn print_automaton_state(q: AutomatonState) {
-    print_number(q.0 as usize);
-}
-
-// The front of the line for an arrow from p to q, up to the text of its label.
-fn open_edge(p: AutomatonState, q: AutomatonState) {
-    print(b"    ");
-    print_automaton_state(p);
-    print(b" -> ");
-    print_automaton_state(q);
-    print(b" [label=\"");
-}
-
-// One variable of a label; one space parts it from those before it.
+// ---- variables
+// A variable by its name, behind a sign; one space parts it from those before it.
 fn print_variable(is_first: bool, sign: &[u8], variable: usize) {
     if !is_first {
         print(b" ");
     }
     print(sign);
+    print(b"v");
     print_number(variable);
 }
 
-// The variables of a mask, each with the sign; `is_first` where the label has none before them.
+// The variables of a mask, each with the sign; `is_first` where nothing stands before them.
 fn print_variables(mask: u8, sign: &[u8], is_first: bool) {
     let mut left = mask;
     let mut first = is_first;
@@ -82,6 +62,15 @@ fn print_variables(mask: u8, sign: &[u8], is_first: bool) {
     }
 }
 
+// The variables of a mask, or `nothing`.
+fn print_mask(mask: u8) {
+    if mask == 0 {
+        print(b"nothing");
+        return;
+    }
+    print_variables(mask, b"", true);
+}
+
 // The on variables, and the off variables with a `!`.
 fn print_label(on: u8, off: u8) {
     if on == 0 && off == 0 {
@@ -92,10 +81,49 @@ fn print_label(on: u8, off: u8) {
     print_variables(off, b"!", on == 0);
 }
 
+// An input that is on, or one that is off, with a `!`.
+fn print_input(is_first: bool, is_on: bool, variable: usize) {
+    if is_on {
+        print_variable(is_first, b"", variable);
+        return;
+    }
+    print_variable(is_first, b"!", variable);
+}
+
+// The inputs that an index stands for: its lowest bit is the lowest input.
+fn print_inputs(inputs: u8, index: usize) {
+    let mut left = inputs;
+    let mut values = index;
+    let mut first = true;
+    let mut i: usize = 0;
+    while i < 8 {
+        if left % 2 == 1 {
+            print_input(first, values % 2 == 1, i);
+            first = false;
+            values /= 2;
+        }
+        left /= 2;
+        i += 1;
+    }
+}
+
+// ---- the automaton: its states are q0, q1, ..
+fn print_automaton_state(q: AutomatonState) {
+    print(b"q");
+    print_number(q.0 as usize);
+}
+
+// The front of the line for an arrow from p to q, up to the text of its label.
+fn open_edge(p: AutomatonState, q: AutomatonState) {
+    print(b"        ");
+    print_automaton_state(p);
+    print(b" -> ");
+    print_automaton_state(q);
+    print(b" [label=\"");
+}
+
 fn draw_edge(edge: Edge) {
-    let from = AutomatonState(edge.from);
-    let to = AutomatonState(edge.to);
-    open_edge(from, to);
+    open_edge(edge.from, edge.to);
     print_label(edge.on, edge.off);
     close_arrow();
 }
@@ -110,14 +138,17 @@ fn draw_edges(automaton: Automaton)
     }
 }
 
+// A rejecting state has two circles.
 fn draw_state(q: AutomatonState, is_rejecting: bool) {
-    print(b"    ");
+    print(b"        ");
     print_automaton_state(q);
+    print(b" [label=\"");
+    print_number(q.0 as usize);
     if is_rejecting {
-        print(b" [shape=doublecircle];\n");
+        print(b"\", shape=doublecircle];\n");
         return;
     }
-    print(b" [shape=circle];\n");
+    print(b"\"];\n");
 }
 
 // The counter runs up to the count of the states, and is made an automaton state for each.
@@ -135,77 +166,102 @@ fn draw_states(states: u8, rejecting: u16) {
 fn draw_automaton(automaton: Automaton)
     requires { ⌜ Arrays automaton ⌝ }
 {
-    let initial = AutomatonState(automaton.initial);
-    print(b"digraph automaton {\n    rankdir=LR;\n    start [shape=point];\n    start -> ");
-    print_automaton_state(initial);
+    print(
+        b"    subgraph cluster_automaton {\n        label=\"automaton (two circles: rejecting)\";\n        q [shape=point];\n        q -> ",
+    );
+    print_automaton_state(automaton.initial);
     print(b";\n");
     draw_states(automaton.states, automaton.rejecting);
     draw_edges(automaton);
-    print(b"}\n");
+    print(b"    }\n");
 }
 
-// ---- the tables
-fn print_process_state(x: ProcessState) {
+// ---- the tables: the states of process 0 are p0_0, p0_1, ..
+fn print_process_state(i: usize, x: ProcessState) {
+    print(b"p");
+    print_number(i);
+    print(b"_");
     print_number(x.0 as usize);
 }
 
 // The front of the line for an arrow from x to y, up to the text of its label.
-fn open_arrow(x: ProcessState, y: ProcessState) {
-    print(b"    ");
-    print_process_state(x);
+fn open_move(i: usize, x: ProcessState, y: ProcessState) {
+    print(b"        ");
+    print_process_state(i, x);
     print(b" -> ");
-    print_process_state(y);
+    print_process_state(i, y);
     print(b" [label=\"");
 }
 
-// One index that leads from state x to y: the first opens the line, the others are parted by a space.
-fn print_index(is_first: bool, x: ProcessState, y: ProcessState, index: usize) {
-    if is_first {
-        open_arrow(x, y);
-    } else {
-        print(b" ");
+// One condition for a move: behind the first each has a line of its own.
+fn print_condition(is_first: bool, inputs: u8, index: usize) {
+    if !is_first {
+        print(b"\\n");
     }
-    print_number(index);
+    print_inputs(inputs, index);
 }
 
-// One arrow for all indexes that lead from state x to y; none where no index does. The next states are bytes, and each is made a process state here.
-fn draw_arrow(x: ProcessState, y: ProcessState, next: &[u8]) {
+// The conditions under which state y is next. The next states are bytes, and each is made a process state here.
+fn print_conditions(y: ProcessState, inputs: u8, next: &[u8]) {
     let mut is_first = true;
     let mut index: usize = 0;
     while index < next.len() {
         let to = ProcessState(next[index]);
         if to.0 == y.0 {
-            print_index(is_first, x, y, index);
+            print_condition(is_first, inputs, index);
             is_first = false;
         }
         index += 1;
     }
-    if !is_first {
-        close_arrow();
-    }
 }
 
-// The arrows from state x. The counter runs up to the bound, and is made a process state for each.
-fn draw_arrows(x: ProcessState, bound: u8, next: &[u8]) {
+// Whether some next state is y, or, with `is_y` false, is another one.
+fn has(y: ProcessState, is_y: bool, next: &[u8]) -> bool {
+    let mut index: usize = 0;
+    while index < next.len() {
+        if (next[index] == y.0) == is_y {
+            return true;
+        }
+        index += 1;
+    }
+    false
+}
+
+// The move of process i from state x to y, if there is one: `true` where it is the only one.
+fn draw_move(i: usize, x: ProcessState, y: ProcessState, inputs: u8, next: &[u8]) {
+    if !has(y, true, next) {
+        return;
+    }
+    open_move(i, x, y);
+    if has(y, false, next) {
+        print_conditions(y, inputs, next);
+    } else {
+        print(b"true");
+    }
+    close_arrow();
+}
+
+// The moves from state x. The counter runs up to the bound, and is made a process state for each.
+fn draw_moves(i: usize, x: ProcessState, bound: u8, inputs: u8, next: &[u8]) {
     let mut y: u8 = 0;
     while y < bound {
-        draw_arrow(x, ProcessState(y), next);
+        draw_move(i, x, ProcessState(y), inputs, next);
         y += 1;
     }
 }
 
-// State x has its output mask below its number.
-fn draw_row(x: ProcessState, bound: u8, row: &[u8])
+// State x has its outputs below its number.
+fn draw_row(i: usize, x: ProcessState, bound: u8, inputs: u8, row: &[u8])
     requires { ⌜ 0 < length (now row) ⌝ }
 {
-    print(b"    ");
-    print_process_state(x);
+    print(b"        ");
+    print_process_state(i, x);
     print(b" [label=\"");
-    print_process_state(x);
+    print_number(x.0 as usize);
     print(b"\\n");
     print_mask(row[0]);
     print(b"\"];\n");
-    draw_arrows(x, bound, &row[1..]);
+    draw_moves(i, x, bound, inputs, &row[1..]);
 }
 
 // The rows of process i. The counter runs up to the bound, and is made a process state for each row.
@@ -214,28 +270,40 @@ fn draw_rows(a: Architecture, i: usize, tables: &[u8])
     requires { ⌜ i < a .processes ⌝ }
     requires { ⌜ length (entriesOf (architectureOf a)) ≤ length (now tables) ⌝ }
 {
-    let row = architecture::row_length(a.inputs_of(i));
+    let inputs = a.inputs_of(i);
+    let row = architecture::row_length(inputs);
     let bound = a.bound_of(i) as u8;
     let mut x: u8 = 0;
     while x < bound {
         let state = ProcessState(x);
         let from = a.row_at(i, state);
         let end = from + row;
-        draw_row(state, bound, &tables[from..end]);
+        draw_row(i, state, bound, inputs, &tables[from..end]);
         x += 1;
     }
 }
 
+// State 0, in which the process starts, has an arrow from a point.
 fn draw_table(a: Architecture, i: usize, tables: &[u8])
     requires { ⌜ IsProper a ⌝ }
     requires { ⌜ i < a .processes ⌝ }
     requires { ⌜ length (entriesOf (architectureOf a)) ≤ length (now tables) ⌝ }
 {
-    print(b"digraph process_");
+    print(b"    subgraph cluster_process_");
     print_number(i);
-    print(b" {\n    rankdir=LR;\n    node [shape=circle];\n");
+    print(b" {\n        label=\"process ");
+    print_number(i);
+    print(b": reads ");
+    print_mask(a.inputs_of(i));
+    print(b"\";\n        p");
+    print_number(i);
+    print(b" [shape=point];\n        p");
+    print_number(i);
+    print(b" -> ");
+    print_process_state(i, ProcessState(0));
+    print(b";\n");
     draw_rows(a, i, tables);
-    print(b"}\n");
+    print(b"    }\n");
 }
 
 fn draw_tables(a: Architecture, tables: &[u8; 272])
@@ -247,6 +315,26 @@ fn draw_tables(a: Architecture, tables: &[u8; 272])
         draw_table(a, i, tables);
         i += 1;
     }
+}
+
+// ---- the graph
+// Its title says how large the sheet is.
+fn open_graph(sheet: Sheet) {
+    let a = sheet.architecture;
+    let automaton = sheet.automaton;
+    print(b"digraph sheet {\n    rankdir=LR;\n    labelloc=t;\n    label=\"");
+    print_number(a.variables as usize);
+    print(b" variables, ");
+    print_number(a.environment as usize);
+    print(b" of the environment; ");
+    print_number(a.processes);
+    print(b" processes; ");
+    print_number(automaton.states as usize);
+    print(b" automaton states\";\n    node [shape=circle];\n");
+}
+
+fn close_graph() {
+    print(b"}\n");
 }
 
 // ---- the sheet and the book
@@ -267,9 +355,11 @@ fn draw_book(sheet: Sheet, book: &[u8])
     match answer {
         Reply::Refused(refusal) => print_refused(refusal),
         Reply::Done => {
+            open_graph(sheet);
             draw_automaton(automaton);
             let tables = reading.tables;
             draw_tables(a, &tables);
+            close_graph();
         }
     }
 }
@@ -295,7 +385,9 @@ fn draw_proper(sheet: Sheet)
 {
     if os::arg_count() < 2 {
         let automaton = sheet.automaton;
+        open_graph(sheet);
         draw_automaton(automaton);
+        close_graph();
         return;
     }
     let mut path = io::buffer();

@@ -25,13 +25,21 @@ print-refused-requires c κs = search needs
 enum-told : tie.Need-enum-told
 enum-told c = search needs
 
+-- `open_graph(sheet)`
+open-graph-requires : tie.Need-open-graph-requires
+open-graph-requires c κs = search needs
+
 -- `draw_automaton(automaton)`
 draw-automaton-requires : tie.Need-draw-automaton-requires
 draw-automaton-requires c κs = search needs
 
 -- `draw_tables(a, &tables)`
 draw-tables-requires : tie.Need-draw-tables-requires
-draw-tables-requires c κs = whole (c .before .before .before .before .before .before .before .before .before)
+draw-tables-requires c κs = whole (c .before .before .before .before .before .before .before .before .before .before)
+
+-- `close_graph()`
+close-graph-requires : tie.Need-close-graph-requires
+close-graph-requires c κs = search needs
 
 -- `match answer`
 returns : tie.Need-returns
@@ -49,7 +57,9 @@ draw-book-spec =
     enum-known-answer
     print-refused-requires
     enum-told
+    open-graph-requires
     draw-automaton-requires
     draw-tables-requires
+    close-graph-requires
     returns
     returns-2)

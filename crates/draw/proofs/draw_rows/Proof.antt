@@ -23,16 +23,16 @@ record Rows (a : Architecture) (i : ℕ) (tables : List ℕ) (row bound : ℕ) :
   within : (x : ℕ) → x < bound → rowAt (processIn a i) (entriesOf (firstIn a i)) x + row ≤ length tables
 
 abbrev Inv-loop : tie.InvT-loop
-Inv-loop a i tables row bound x₀ x = Rows a i tables row bound
+Inv-loop a i tables inputs row bound x₀ x = Rows a i tables row bound
 
 abbrev μ-loop : tie.MeasureT-loop
-μ-loop a i tables row bound x₀ x = bound - x
+μ-loop a i tables inputs row bound x₀ x = bound - x
 
--- `let row = architecture::row_length(a.inputs_of(i))`
+-- `let inputs = a.inputs_of(i)`
 inputs-of-requires : tie.Need-inputs-of-requires Inv-loop μ-loop
 inputs-of-requires c κs = search needs
 
--- `let row = architecture::row_length(a.inputs_of(i))`
+-- `let row = architecture::row_length(inputs)`
 row-length-requires : tie.Need-row-length-requires Inv-loop μ-loop
 row-length-requires c κs = search needs
 
