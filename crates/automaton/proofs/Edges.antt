@@ -8,32 +8,33 @@ use native.Mathlib.Omega.{arith}
 use native.Mathlib.Decide.{ℕ-discrete}
 use lib.ListN.{length, set, length-append}
 use lib.Seq.{getD-set-same, getD-set-other}
+use Rattle.model.specs.declared.AutomatonState.{AutomatonState}
 use Rattle.model.specs.Sheet.{ProperEdge}
 use Rattle.automaton.specs.declared.Automaton.{Automaton}
 use Rattle.automaton.specs.Struct.{edgeAt, edgesOf, edgeIn, automatonOf, IsProper}
 
-pub edges-length : (n : ℕ) (f t p q : List ℕ) → length (edgesOf n f t p q) ≡ n
+pub edges-length : (n : ℕ) (f t : List AutomatonState) (p q : List ℕ) → length (edgesOf n f t p q) ≡ n
 unfolding edgesOf
 edges-length zero f t p q = refl
 edges-length (suc n) f t p q = simp length-append (omega (arith, edges-length n f t p q))
 
 -- ---- a store at n leaves the entries before it
-module _ (n : ℕ) (f t p q : List ℕ) (x y z w : ℕ) where
+module _ (n : ℕ) (f t : List AutomatonState) (p q : List ℕ) (x y : AutomatonState) (z w : ℕ) where
   edges-before : (k : ℕ) → k ≤ n → edgesOf k (set f n x) (set t n y) (set p n z) (set q n w) ≡ edgesOf k f t p q
   unfolding edgesOf
   edges-before zero h = refl
   edges-before (suc k) h =
       let ne : k ≡ n → ⊥ = λ e. omega arith in
-      rw (edges-before k (omega arith), getD-set-other f n k x 0 ne, getD-set-other t n k y 0 ne, getD-set-other p n k z 0 ne, getD-set-other q n k w 0 ne)
+      rw (edges-before k (omega arith), getD-set-other f n k x (record { 0 = 0 }) ne, getD-set-other t n k y (record { 0 = 0 }) ne, getD-set-other p n k z 0 ne, getD-set-other q n k w 0 ne)
 
   pub edges-more : n < length f → n < length t → n < length p → n < length q
-      → edgesOf (n + 1) (set f n x) (set t n y) (set p n z) (set q n w) ≡ edgesOf n f t p q ++ (record { from = x; to = y; on = z; off = w } ∷ [])
+      → edgesOf (n + 1) (set f n x) (set t n y) (set p n z) (set q n w) ≡ edgesOf n f t p q ++ (record { from = x .0; to = y .0; on = z; off = w } ∷ [])
   unfolding edgesOf
   edges-more hf ht hp hq =
-      rw (add-one n, edges-before n (le-refl n), getD-set-same f n x 0 hf, getD-set-same t n y 0 ht, getD-set-same p n z 0 hp, getD-set-same q n w 0 hq)
+      rw (add-one n, edges-before n (le-refl n), getD-set-same f n x (record { 0 = 0 }) hf, getD-set-same t n y (record { 0 = 0 }) ht, getD-set-same p n z 0 hp, getD-set-same q n w 0 hq)
 
 -- ---- edge i is one of the edges, and so a proper one
-edge-drawn : (f t p r : List ℕ) (n i : ℕ) → i < n → List·Memᴰ (edgeAt f t p r i) (edgesOf n f t p r)
+edge-drawn : (f t : List AutomatonState) (p r : List ℕ) (n i : ℕ) → i < n → List·Memᴰ (edgeAt f t p r i) (edgesOf n f t p r)
 unfolding edgesOf
 edge-drawn f t p r zero i h = absurd (omega arith)
 edge-drawn f t p r (suc n) i h = by (ℕ-discrete i n) (λ l. edge-drawn f t p r n i l)

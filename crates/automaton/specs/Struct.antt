@@ -3,6 +3,7 @@ use mathlib.Core.Path.{_≡_}
 use mathlib.Core.List.{List, [], _∷_, _++_}
 use Prim.Native.Nat.{ℕ, zero, suc, _≤_}
 use lib.ListN.{length, getD}
+use Rattle.model.specs.declared.AutomatonState.{AutomatonState}
 use Rattle.model.specs.Sheet as model
 use Rattle.model.specs.Sheet.{ProperAutomaton}
 use Rattle.automaton.specs.declared.Edge.{Edge}
@@ -13,11 +14,11 @@ abbrev pub edgeOf : Edge → model.Edge
 edgeOf e = record { from = e .from .0; to = e .to .0; on = e .on; off = e .off }
 
 -- entry i of four arrays, as an edge
-abbrev pub edgeAt : List ℕ → List ℕ → List ℕ → List ℕ → ℕ → model.Edge
-edgeAt f t p q i = record { from = getD f i 0; to = getD t i 0; on = getD p i 0; off = getD q i 0 }
+abbrev pub edgeAt : List AutomatonState → List AutomatonState → List ℕ → List ℕ → ℕ → model.Edge
+edgeAt f t p q i = record { from = getD f i (record { 0 = 0 }) .0; to = getD t i (record { 0 = 0 }) .0; on = getD p i 0; off = getD q i 0 }
 
 -- the first n entries, as edges
-unfoldable pub edgesOf : ℕ → List ℕ → List ℕ → List ℕ → List ℕ → List model.Edge
+unfoldable pub edgesOf : ℕ → List AutomatonState → List AutomatonState → List ℕ → List ℕ → List model.Edge
 edgesOf zero f t p q = []
 edgesOf (suc n) f t p q = edgesOf n f t p q ++ (edgeAt f t p q n ∷ [])
 

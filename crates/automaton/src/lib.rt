@@ -15,14 +15,14 @@ pub struct Edge {
     pub off: u8,
 }
 
-// The first `edges` of from, to, on and off count. The entries of `from` and `to` are bytes: `edge` makes automaton states of them at once.
+// The first `edges` of from, to, on and off count.
 pub struct Automaton {
     pub states: u8,
     pub initial: AutomatonState,
     pub rejecting: u16,
     pub edges: usize,
-    pub from: [u8; 64],
-    pub to: [u8; 64],
+    pub from: [AutomatonState; 64],
+    pub to: [AutomatonState; 64],
     pub on: [u8; 64],
     pub off: [u8; 64],
 }
@@ -50,8 +50,8 @@ impl Automaton {
             initial,
             rejecting,
             edges: 0,
-            from: [0; 64],
-            to: [0; 64],
+            from: [AutomatonState(0); 64],
+            to: [AutomatonState(0); 64],
             on: [0; 64],
             off: [0; 64],
         }
@@ -65,15 +65,17 @@ impl Automaton {
         ensures { λ r. ⌜ Arrays r × (r .edges ≡ self .edges + 1) ⌝ }
     {
         let n = self.edges;
-        self.from[n] = edge.from.0;
-        self.to[n] = edge.to.0;
+        let from = edge.from;
+        let to = edge.to;
+        self.from[n] = from;
+        self.to[n] = to;
         self.on[n] = edge.on;
         self.off[n] = edge.off;
         self.edges = n + 1;
         self
     }
 
-    // Edge i, its states made of the two bytes.
+    // Edge i.
     pub fn edge(self, i: usize) -> Edge
         requires { ⌜ Arrays self ⌝ }
         requires { ⌜ i < self .edges ⌝ }
@@ -84,8 +86,8 @@ impl Automaton {
         let on = self.on;
         let off = self.off;
         Edge {
-            from: AutomatonState(from[i]),
-            to: AutomatonState(to[i]),
+            from: from[i],
+            to: to[i],
             on: on[i],
             off: off[i],
         }

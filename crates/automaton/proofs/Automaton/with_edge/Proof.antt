@@ -9,21 +9,21 @@ use Rattle.automaton.proofs.Edges.{edges-more}
 use Rattle.automaton.proofs.Automaton.with_edge.Statement.{statement}
 use Rattle.automaton.proofs.Automaton.with_edge.Tie as tie
 
--- `self.from[n] = edge.from.0`
+-- `self.from[n] = from`
+element-set-from-from : tie.Need-element-set-from-from
+element-set-from-from c = search needs
+
+-- `self.to[n] = to`
+element-set-from-to : tie.Need-element-set-from-to
+element-set-from-to c = search needs
+
+-- `self.on[n] = edge.on`
 element-write-self : tie.Need-element-write-self
 element-write-self c = search needs
 
--- `self.to[n] = edge.to.0`
+-- `self.off[n] = edge.off`
 element-write-self-2 : tie.Need-element-write-self-2
 element-write-self-2 c = search needs
-
--- `self.on[n] = edge.on`
-element-write-self-3 : tie.Need-element-write-self-3
-element-write-self-3 c = search needs
-
--- `self.off[n] = edge.off`
-element-write-self-4 : tie.Need-element-write-self-4
-element-write-self-4 c = search needs
 
 -- `self.edges = n + 1`
 add-self : tie.Need-add-self
@@ -33,11 +33,12 @@ add-self c = search needs
 returns : tie.Need-returns
 unfolding withEdge automatonOf
 returns c =
-    let u = c .args .t1 in
-    let e = c .args .edge in
-    let z = c .pre .0 in (
+    let b = c .before .before in
+    let u = b .args .t1 in
+    let e = b .args .edge in
+    let z = b .pre .0 in (
       rw
-          (edges-more (u .edges) (u .from) (u .to) (u .on) (u .off) (e .from .0) (e .to .0) (e .on) (e .off) (omega arith) (omega arith) (omega arith) (omega arith)),
+          (edges-more (u .edges) (u .from) (u .to) (u .on) (u .off) (e .from) (e .to) (e .on) (e .off) (omega arith) (omega arith) (omega arith) (omega arith)),
       (
         record {
           few-edges = omega arith;
@@ -54,9 +55,9 @@ pub with-edge-spec : {M : Type 1} → statement M
 with-edge-spec =
     tie.close
     (tie.spec
+    element-set-from-from
+    element-set-from-to
     element-write-self
     element-write-self-2
-    element-write-self-3
-    element-write-self-4
     add-self
     returns)
