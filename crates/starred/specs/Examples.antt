@@ -181,7 +181,8 @@ pub record Pinned : Type 0 where
   pub shared-bit : replyCode (checkOf (ar 3 3 0 ++ pr 0 0 1 ++ au 1 0 0 ++ ed 0 0 0x03 0x06)) ≡ 7
   -- 8 even if the result would be `none`, and before 9
   pub book-buffer-short : outcomeCode (findOf caseF (buffer 7) [] .answer) ≡ 8
-  pub annotation-buffer-short : outcomeCode (findOf caseF (buffer 8) [] .answer) ≡ 9
+  -- 9 for fewer numbers than T times the automaton states, not than T
+  pub annotation-buffer-short : outcomeCode (findOf (sheetE 1 2 1 (edge 0 0)) (buffer 8) (buffer 1) .answer) ≡ 9
   -- 10 over the whole book before 11, and that before 9
   pub book-before-entries : verdictCode (judgeOf caseE (tb 0 1 1 ++ (0x45 ∷ 0x45 ∷ [])) []) ≡ 10
   pub output-outside : verdictCode (judgeOf caseE (tb 0 1 0 ++ en) []) ≡ 11
