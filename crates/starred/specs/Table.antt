@@ -24,7 +24,7 @@ pub data Row : Type 0 where
   refuses : (sheet : List ℕ) → ℕ → Row
   refuses-behind : (sheet : List ℕ) → ℕ → Row
 
--- the call answers, and leaves in find's buffers, what is expected; a refusal gives its number, and the last for a sheet with any byte behind it
+-- the call answers, and leaves in find's buffers, what is expected; a refusal by its number, in the last row with any byte behind the sheet
 abbrev pub Holds : Row → Type 0
 Holds (find sheet book annotation after) = findOf sheet (buffer book) (buffer annotation) ≡ after
 Holds (judge sheet book annotation verdict) = judgeOf sheet book annotation ≡ verdict
