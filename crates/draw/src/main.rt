@@ -295,6 +295,8 @@ fn draw_table(a: Architecture, i: usize, tables: &[u8])
     print_number(i);
     print(b": reads ");
     print_mask(a.inputs_of(i));
+    print(b", sets ");
+    print_mask(a.outputs_of(i));
     print(b"\";\n        p");
     print_number(i);
     print(b" [shape=point];\n        p");
@@ -322,15 +324,15 @@ fn draw_tables(a: Architecture, tables: &[u8; 272])
 fn open_graph(sheet: Sheet) {
     let a = sheet.architecture;
     let automaton = sheet.automaton;
-    print(b"digraph sheet {\n    rankdir=LR;\n    labelloc=t;\n    label=\"");
+    print(b"digraph sheet {\n    rankdir=LR;\n    labelloc=t;\n    label=\"variables ");
     print_number(a.variables as usize);
-    print(b" variables, ");
+    print(b", of the environment ");
     print_number(a.environment as usize);
-    print(b" of the environment; ");
+    print(b"; processes ");
     print_number(a.processes);
-    print(b" processes; ");
+    print(b"; automaton states ");
     print_number(automaton.states as usize);
-    print(b" automaton states\";\n    node [shape=circle];\n");
+    print(b"\";\n    node [shape=circle];\n");
 }
 
 fn close_graph() {
