@@ -1,4 +1,5 @@
 -- the laws that the proofs of the functions cite
+pub mod WholeText
 pub mod PartsInTurn
 pub mod Exponents
 pub mod ListingShort

@@ -1,7 +1,7 @@
 // What the showing program prints: a line for each record of a sheet, and the counts.
 ghost use mathlib.Core.Path.{_≡_};
 ghost use Prim.Native.Nat.{_+_, _*_, _^_, _<_, _≤_};
-ghost use lib.ListN.{length, getD, take};
+ghost use lib.ListN.{length, getD};
 ghost use Rattle.model.specs.Mask.{count};
 ghost use Rattle.model.specs.Choice.{next, entries as entriesOf};
 ghost use Rattle.architecture.specs.Struct.{IsProper, architectureOf, processesIn};
@@ -9,6 +9,7 @@ ghost use Rattle.automaton.specs.Struct.{Arrays, edgeOf, firstIn, automatonOf};
 ghost use Rattle.sheet.specs.Struct.{IsProper as Proper, sheetOf};
 ghost use Rattle.append.specs.Appends.{Appends};
 ghost use Rattle.listing.specs.Listing as spec;
+ghost use Rattle.listing.specs.Holds.{Holds};
 use architecture::Architecture;
 use automaton::Automaton;
 use automaton::Edge;
@@ -264,8 +265,7 @@ fn put_sheet(text: &mut [u8], sheet: Sheet) -> usize
 // The text of a proper sheet, at the front of the buffer: answers its length.
 pub fn sheet_text(text: &mut [u8; 8192], sheet: Sheet) -> usize
     requires { ⌜ Proper sheet ⌝ }
-    ensures { λ r. ⌜ take r (now (text .exit)) ≡ spec.showText (sheetOf sheet) ⌝ }
-    ensures { λ r. ⌜ r ≤ 8192 ⌝ }
+    ensures { λ r. ⌜ Holds 8192 (now (text .exit)) r (spec.showText (sheetOf sheet)) ⌝ }
 {
     put_sheet(text, sheet)
 }
