@@ -16,7 +16,7 @@ use model::Refusal;
 
 // ---- bytes and numbers: each function that puts something answers the index behind it
 // One byte.
-fn put(text: &mut [u8], at: usize, byte: u8) -> usize
+pub fn put(text: &mut [u8], at: usize, byte: u8) -> usize
     requires { ⌜ at < length (now text) ⌝ }
     ensures { λ r. ⌜ Appends (now (text .entry)) at (byte ∷ []) r (now (text .exit)) ⌝ }
 {
@@ -25,7 +25,7 @@ fn put(text: &mut [u8], at: usize, byte: u8) -> usize
 }
 
 // All of these bytes.
-fn put_bytes(text: &mut [u8], at: usize, bytes: &[u8]) -> usize
+pub fn put_bytes(text: &mut [u8], at: usize, bytes: &[u8]) -> usize
     requires { ⌜ at + length (now bytes) ≤ length (now text) ⌝ }
     ensures { λ r. ⌜ Appends (now (text .entry)) at (now (bytes .entry)) r (now (text .exit)) ⌝ }
 {
@@ -50,7 +50,7 @@ fn digit(d: u8) -> u8
 }
 
 // A mask, in two hexadecimal digits.
-fn put_hex(text: &mut [u8], at: usize, mask: u8) -> usize
+pub fn put_hex(text: &mut [u8], at: usize, mask: u8) -> usize
     requires { ⌜ at + 2 ≤ length (now text) ⌝ }
     ensures { λ r. ⌜ Appends (now (text .entry)) at (spec.hex mask) r (now (text .exit)) ⌝ }
 {
@@ -59,7 +59,7 @@ fn put_hex(text: &mut [u8], at: usize, mask: u8) -> usize
 }
 
 // A number, in decimal.
-fn put_decimal(text: &mut [u8], at: usize, n: usize) -> usize
+pub fn put_decimal(text: &mut [u8], at: usize, n: usize) -> usize
     requires { ⌜ at + length (spec.decimal n) ≤ length (now text) ⌝ }
     ensures { λ r. ⌜ Appends (now (text .entry)) at (spec.decimal n) r (now (text .exit)) ⌝ }
 {
@@ -72,7 +72,7 @@ fn put_decimal(text: &mut [u8], at: usize, n: usize) -> usize
 
 // ---- lines
 // A word and a number.
-fn put_line(text: &mut [u8], at: usize, word: &[u8], n: usize) -> usize
+pub fn put_line(text: &mut [u8], at: usize, word: &[u8], n: usize) -> usize
     requires { ⌜ at + length (spec.line (now word) n) ≤ length (now text) ⌝ }
     ensures { λ r. ⌜ Appends (now (text .entry)) at (spec.line (now (word .entry)) n) r (now (text .exit)) ⌝ }
 {

@@ -1,0 +1,55 @@
+-- `show::answer_text` meets its contract: a sheet that is read without a refusal is proper, and either answer has its text.
+use borrow.Author.Needs.{needs}
+use Rattle.sheet.proofs.AnswersOfReading.{read-refused, read-proper, read-is-proper}
+use Rattle.show.specs.Shown.{answerText, shown}
+use Rattle.show.proofs.answer_text.Statement.{statement}
+use Rattle.show.proofs.answer_text.Tie as tie
+
+-- `let reading = sheet::read(sheet)`
+read-requires : tie.Need-read-requires
+read-requires c κs = search needs
+
+-- `Reply::Refused(refusal) => refused_text(text, refusal)`
+enum-known-answer : tie.Need-enum-known-answer
+enum-known-answer c = search needs
+
+-- `Reply::Refused(refusal) => refused_text(text, refusal)`
+refused-text-requires : tie.Need-refused-text-requires
+refused-text-requires c κs = search needs
+
+-- `let read = reading.sheet`
+enum-told : tie.Need-enum-told
+enum-told c = search needs
+
+-- `listing::sheet_text(text, read)`
+sheet-text-requires : tie.Need-sheet-text-requires
+sheet-text-requires c κs =
+    let r = c .before .before .before .before .read in
+    read-is-proper _ (r .result) (r .ensures .0) (r .ensures .1) (c .before .before .enum-told .given .1)
+
+-- `match answer`
+returns : tie.Need-returns
+unfolding shown answerText
+returns c =
+    let r = c .before .before .before .before .before .read in
+    let o = c .before .before .before .answer .given in
+    rw (read-refused _ (r .result .answer) (r .result .sheet) (o .0 .0) (r .ensures .0) (o .1)) (c .refused-text .ensures)
+
+-- `match answer`
+returns-2 : tie.Need-returns-2
+unfolding shown answerText
+returns-2 c =
+    let r = c .before .before .before .before .before .read in
+    rw (read-proper _ (r .result .answer) (r .result .sheet) (r .ensures .0) (c .before .before .before .enum-told .given .1)) (c .sheet-text .ensures)
+
+pub answer-text-spec : {M : Type 1} → statement M
+answer-text-spec =
+    tie.close
+    (tie.spec
+    read-requires
+    enum-known-answer
+    refused-text-requires
+    enum-told
+    sheet-text-requires
+    returns
+    returns-2)

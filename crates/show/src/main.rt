@@ -1,0 +1,76 @@
+// Shows what a sheet says, a line for each record and then the counts, or `refused` and the number.
+// The sheet is in the file that its first argument names, or on standard input without one or with `-`.
+ghost use Rattle.model.specs.Numbers.{number};
+ghost use Rattle.text.specs.Text.{refusedText};
+ghost use Rattle.listing.specs.Holds.{Holds};
+ghost use Rattle.show.specs.Shown.{shown};
+use libc::STDIN_FILENO;
+use libc::STDOUT_FILENO;
+use model::Refusal;
+use model::Reply;
+
+// One byte more than the longest proper sheet, so that a byte after EN is seen.
+const ROOM: usize = 418;
+
+// `refused` and the number, at the front of the buffer: answers its length.
+fn refused_text(text: &mut [u8; 8192], refusal: Refusal) -> usize
+    ensures { λ r. ⌜ Holds 8192 (now (text .exit)) r (refusedText (number refusal)) ⌝ }
+{
+    text::put_line(text, 0, b"refused ", refusal.number() as usize)
+}
+
+// The text for the bytes of a sheet file, at the front of the buffer: answers its length.
+fn answer_text(text: &mut [u8; 8192], sheet: &[u8]) -> usize
+    ensures { λ r. ⌜ Holds 8192 (now (text .exit)) r (shown (now (sheet .entry))) ⌝ }
+{
+    let reading = sheet::read(sheet);
+    let answer = reading.answer;
+    match answer {
+        Reply::Refused(refusal) => refused_text(text, refusal),
+        Reply::Done => {
+            let read = reading.sheet;
+            listing::sheet_text(text, read)
+        }
+    }
+}
+
+// Of the sheet in an open file.
+fn show(file: i32) {
+    let mut sheet = [0u8; ROOM];
+    let length = io::read_full(file, &mut sheet);
+    let mut text = [0u8; 8192];
+    let end = answer_text(&mut text, &sheet[..length]);
+    io::write_all(STDOUT_FILENO, &text[..end]);
+}
+
+fn show_file(path: &[u8]) {
+    let file = os::open_read(path);
+    if file < 0 {
+        os::fail(path);
+        return;
+    }
+    show(file);
+    libc::close(file);
+}
+
+// The path is `-`.
+fn is_dash(path: &[u8]) -> bool {
+    if path.len() != 1 {
+        return false;
+    }
+    path[0] == b'-'
+}
+
+fn main() {
+    if os::arg_count() < 2 {
+        show(STDIN_FILENO);
+        return;
+    }
+    let mut path = io::buffer();
+    let length = os::arg(1, &mut path);
+    if is_dash(&path[..length]) {
+        show(STDIN_FILENO);
+        return;
+    }
+    show_file(&path[..length]);
+}
