@@ -47,3 +47,14 @@ pub words-read-back : (words : List ℕ) → wordsOf (bytesOf words) ≡ words
 unfolding wordsOf bytesOf
 words-read-back [] = refl
 words-read-back (word ∷ words) = let e : word % 256 + 256 * (word / 256) ≡ word = omega arith in ap₂ (λ (x : ℕ) (xs : List ℕ). x ∷ xs) e (words-read-back words)
+
+-- the front of the words is made of the front of the bytes
+pub words-front : (n : ℕ) (bytes : List ℕ) → wordsOf (take (2 * n) bytes) ≡ take n (wordsOf bytes)
+unfolding wordsOf
+words-front zero bytes = refl
+words-front (suc n) bytes = let e : 2 * suc n ≡ suc (suc (2 * n)) = omega arith in rw e (by bytes (words-front n))
+  where
+    by : (bytes : List ℕ) → ((rest : List ℕ) → wordsOf (take (2 * n) rest) ≡ take n (wordsOf rest)) → wordsOf (take (suc (suc (2 * n))) bytes) ≡ take (suc n) (wordsOf bytes)
+    by [] r = refl
+    by (low ∷ []) r = refl
+    by (low ∷ high ∷ rest) r = ap (λ (l : List ℕ). (low + 256 * high) ∷ l) (r rest)
