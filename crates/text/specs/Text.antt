@@ -1,4 +1,4 @@
--- 01, "Bench cases": what the finding program prints, as bytes.
+-- 01, "Bench cases": what the programs print, as bytes.
 use mathlib.Core.List.{List, [], _∷_, _++_}
 use Prim.Native.Nat.{ℕ, zero, suc, _+_, _-_, _/_, _%_}
 use lib.Dec.{eqb, ltb}
@@ -92,9 +92,29 @@ textOf a c annotation =
     ++ tablesText 0 (a .processes) 0 c
     ++ line greatestWord (greatest unblank annotation)
 
+-- `greatest` and the greatest number of an annotation
+unfoldable pub greatestText : List ℕ → List ℕ
+greatestText annotation = line greatestWord (greatest unblank annotation)
+
 -- `none`
 abbrev pub noneText : List ℕ
 noneText = 0x6E ∷ 0x6F ∷ 0x6E ∷ 0x65 ∷ newline
+
+-- `loop`
+abbrev pub loopText : List ℕ
+loopText = 0x6C ∷ 0x6F ∷ 0x6F ∷ 0x70 ∷ newline
+
+-- `yes`
+abbrev pub yesText : List ℕ
+yesText = 0x79 ∷ 0x65 ∷ 0x73 ∷ newline
+
+-- `no`
+abbrev pub noText : List ℕ
+noText = 0x6E ∷ 0x6F ∷ newline
+
+-- `proper`
+abbrev pub properText : List ℕ
+properText = 0x70 ∷ 0x72 ∷ 0x6F ∷ 0x70 ∷ 0x65 ∷ 0x72 ∷ newline
 
 -- `refused` and the number
 abbrev pub refusedText : ℕ → List ℕ

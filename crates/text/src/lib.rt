@@ -1,4 +1,4 @@
-// What the finding program prints: the tables of a choice, `none`, or `refused` and the number.
+// What the programs print: the tables of a choice, the greatest number of an annotation, one of the short answers, or `refused` and the number.
 ghost use mathlib.Core.Path.{_≡_};
 ghost use mathlib.Core.List.{_∷_, [], _++_};
 ghost use Prim.Native.Nat.{_+_, _<_, _≤_, max};
@@ -239,11 +239,46 @@ pub fn tables_text(
     put_text(text, a, tables, annotation)
 }
 
+// `greatest` and the greatest number of an annotation.
+pub fn greatest_text(text: &mut [u8; 1024], annotation: &[u16]) -> usize
+    ensures { λ r. ⌜ Holds (now (text .exit)) r (spec.greatestText (now (annotation .entry))) ⌝ }
+{
+    put_line(text, 0, b"greatest ", greatest(annotation) as usize)
+}
+
 // `none`.
 pub fn none_text(text: &mut [u8; 1024]) -> usize
     ensures { λ r. ⌜ Holds (now (text .exit)) r spec.noneText ⌝ }
 {
     put_bytes(text, 0, b"none\n")
+}
+
+// `loop`.
+pub fn loop_text(text: &mut [u8; 1024]) -> usize
+    ensures { λ r. ⌜ Holds (now (text .exit)) r spec.loopText ⌝ }
+{
+    put_bytes(text, 0, b"loop\n")
+}
+
+// `yes`.
+pub fn yes_text(text: &mut [u8; 1024]) -> usize
+    ensures { λ r. ⌜ Holds (now (text .exit)) r spec.yesText ⌝ }
+{
+    put_bytes(text, 0, b"yes\n")
+}
+
+// `no`.
+pub fn no_text(text: &mut [u8; 1024]) -> usize
+    ensures { λ r. ⌜ Holds (now (text .exit)) r spec.noText ⌝ }
+{
+    put_bytes(text, 0, b"no\n")
+}
+
+// `proper`.
+pub fn proper_text(text: &mut [u8; 1024]) -> usize
+    ensures { λ r. ⌜ Holds (now (text .exit)) r spec.properText ⌝ }
+{
+    put_bytes(text, 0, b"proper\n")
 }
 
 // `refused` and the number.

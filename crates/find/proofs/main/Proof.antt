@@ -1,4 +1,4 @@
--- `find::main` is safe: the text is whole, so that its length lies within the buffer.
+-- `find::main` is safe, and what it puts out is the text that is due: the text is whole, so that its length lies within the buffer.
 use mathlib.Core.Path.{ap}
 use native.Mathlib.Omega.{arith}
 use lib.ListN.{length}
@@ -26,19 +26,27 @@ slice-aggregate-answer-text c = search needs
 answer-text-requires : tie.Need-answer-text-requires
 answer-text-requires c κs = search needs
 
--- `io::write_all(STDOUT_FILENO, &text[..end])`
+-- `put_out(&sheet[..length], &text[..end])`
+array-share-prefix-sheet-2 : tie.Need-array-share-prefix-sheet-2
+array-share-prefix-sheet-2 c = search needs
+
+-- `put_out(&sheet[..length], &text[..end])`
+slice-aggregate-put-out : tie.Need-slice-aggregate-put-out
+slice-aggregate-put-out c = search needs
+
+-- `put_out(&sheet[..length], &text[..end])`
 array-share-prefix-text : tie.Need-array-share-prefix-text
 array-share-prefix-text c = search needs
 
--- `io::write_all(STDOUT_FILENO, &text[..end])`
-slice-aggregate-write-all : tie.Need-slice-aggregate-write-all
-slice-aggregate-write-all c = let h = c .before .answer-text .ensures in omega (arith, h .whole, ap length (h .is))
+-- `put_out(&sheet[..length], &text[..end])`
+slice-aggregate-put-out-2 : tie.Need-slice-aggregate-put-out-2
+slice-aggregate-put-out-2 c = let h = c .before .before .answer-text .ensures in omega (arith, h .whole, ap length (h .is))
 
--- `io::write_all(STDOUT_FILENO, &text[..end])`
-write-all-requires : tie.Need-write-all-requires
-write-all-requires c κs = search needs
+-- `put_out(&sheet[..length], &text[..end])`
+put-out-requires : tie.Need-put-out-requires
+put-out-requires c κs = search needs
 
--- `io::write_all(STDOUT_FILENO, &text[..end])`
+-- `put_out(&sheet[..length], &text[..end])`
 returns : tie.Need-returns
 returns c = search needs
 
@@ -51,7 +59,9 @@ main-spec =
     array-share-prefix-sheet
     slice-aggregate-answer-text
     answer-text-requires
+    array-share-prefix-sheet-2
+    slice-aggregate-put-out
     array-share-prefix-text
-    slice-aggregate-write-all
-    write-all-requires
+    slice-aggregate-put-out-2
+    put-out-requires
     returns)

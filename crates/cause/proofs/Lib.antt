@@ -1,0 +1,2 @@
+-- what the position of the first fault means
+pub mod FirstFault

@@ -1,0 +1,122 @@
+-- The program reads the first 418 bytes of a sheet, 339 of a book and 8,192 of an annotation: what it prints for them is the text for the whole files. A book
+-- that is longer than 338 bytes is refused either way, and a judge looks at no number behind those of the vertices, which are at most 4,096.
+use mathlib.Core.Path.{_≡_, refl, sym, ap, _∙_}
+use mathlib.Core.Bool.{Bool, true, false, not}
+use mathlib.Core.List.{List}
+use Prim.Native.Nat.{ℕ, _≤_, _<_}
+use native.Mathlib.Omega.{arith}
+use native.Mathlib.Decide.{decLe}
+use lib.ListN.{length, getD, take, length-take}
+use lib.Seq.{take-all, getD-take}
+use borrow.Author.Tests.{ltb-true, lt-ltb}
+use Rattle.theory.specs.Graph.{Graph, Finite, Valid}
+use Rattle.theory.proofs.ValidLaws.{valid-right}
+use Rattle.model.specs.declared.Refusal.the-variants.{BadBook, AnnotationBufferTooShort}
+use Rattle.model.specs.declared.Finding.the-variants.{Yes, No}
+use Rattle.model.specs.declared.Verdict.{Verdict}
+use Rattle.model.specs.Mask.{if}
+use Rattle.model.specs.Sheet.{Architecture, Sheet, ProperSheet, ProperArchitecture}
+use Rattle.model.specs.Reading.{Reading, refused, proper, refuse_when_else_, _then_, readSheet}
+use Rattle.model.specs.Choice.{IsChoice}
+use Rattle.model.specs.RunGraph.{vertices, blank}
+use Rattle.model.specs.Computed.{runGraph, valid}
+use Rattle.model.specs.Book.{form, bookLength, wellFormed, entriesIn, bookFault, readBook}
+use Rattle.model.specs.Calls.{Chosen, annotationShort, roomFor, bookFor, bookAndRoom, judged, judgeOf}
+use Rattle.model.proofs.Prefix.{read-prefix}
+use Rattle.model.proofs.ProperSheet.{sheet-proper}
+use Rattle.model.proofs.Refusing.{stop}
+use Rattle.model.proofs.BookInverse.{filled-length, read-filled}
+use Rattle.model.proofs.BookRead.{read-choice}
+use Rattle.model.proofs.RunGraphSteps.{graph-finite}
+use Rattle.model.proofs.Sizes.{book-short}
+use Rattle.graph.proofs.TablesOfChoice.{vertices-few}
+use Rattle.words.specs.Words.{wordsOf}
+use Rattle.words.proofs.WordLaws.{words-front}
+use Rattle.judge.specs.Printed.{verdictText, printed}
+
+-- ---- the book
+-- a book that is longer than its sheet allows is refused with 10
+too-long : (a : Architecture) (b : List ℕ) → bookLength a < length b → readBook a b ≡ refused BadBook
+unfolding readBook bookFault bookLength
+too-long a b h = stop BadBook _ (ap not (by (wellFormed (form a) b) refl))
+  where
+    by : (t : Bool) → wellFormed (form a) b ≡ t → wellFormed (form a) b ≡ false
+    by false e = e
+    by true e = absurd (omega (arith, ap length (read-filled (form a) b e), filled-length (form a) (entriesIn (form a) b)))
+
+book-front : (a : Architecture) (b : List ℕ) → ProperArchitecture a → readBook a (take 339 b) ≡ readBook a b
+book-front a b good = by (decLe (length b) 339)
+  where
+    by : Dec (length b ≤ 339) → readBook a (take 339 b) ≡ readBook a b
+    by (yes h) = ap (readBook a) (take-all 339 b h)
+    by (no h) = too-long a (take 339 b) (omega (arith, length-take 339 b, book-short a good)) ∙ sym (too-long a b (omega (arith, book-short a good)))
+
+-- ---- the annotation
+-- numbers that agree on the vertices are valid alike
+agreeing-valid : {g : Graph} {none : ℕ} (f h : ℕ → ℕ) → Finite g → ((v : ℕ) → v < g .size → f v ≡ h v) → Valid g none f → Valid g none h
+agreeing-valid f h fin same ok = record {
+  starts = λ e. ok .starts (same _ (fin .starts) ∙ e);
+  spreads = λ {v} {w} l n p e. ok .spreads l (λ q. n (sym (same v l) ∙ q)) p (same w (fin .stays l p) ∙ e);
+  rises = λ {v} {w} l n p. omega (arith, ok .rises l (λ q. n (sym (same v l) ∙ q)) p, same v l, same w (fin .stays l p));
+}
+
+-- two tests that pass together
+both : (t u : Bool) → (t ≡ true → u ≡ true) → (u ≡ true → t ≡ true) → t ≡ u
+both true u f g = sym (f refl)
+both false true f g = g refl
+both false false f g = refl
+
+module _ (s : Sheet) (c ann : List ℕ) (good : ProperSheet s) (choice : IsChoice (s .architecture) c) where
+  same : (v : ℕ) → v < vertices s → getD (take 4096 ann) v blank ≡ getD ann v blank
+  same v h = getD-take 4096 ann v blank (omega (arith, vertices-few s good))
+
+  valid-front : valid s c (take 4096 ann) ≡ valid s c ann
+  unfolding valid runGraph
+  valid-front =
+      let g = runGraph s c in
+      let fin = graph-finite s c good choice in
+      let right : (num : ℕ → ℕ) → _ = valid-right g blank in
+      both _ _
+      (λ e. right _ .1 (agreeing-valid _ (λ v. getD ann v blank) fin same (right _ .0 e)))
+      (λ e. right _ .1 (agreeing-valid _ (λ v. getD (take 4096 ann) v blank) fin (λ v h. sym (same v h)) (right _ .0 e)))
+
+  short-front : annotationShort s (take 4096 ann) ≡ annotationShort s ann
+  unfolding annotationShort
+  short-front =
+      both _ _
+      (λ e. lt-ltb (length ann) (vertices s) (omega (arith, ltb-true (length (take 4096 ann)) (vertices s) e, length-take 4096 ann, vertices-few s good)))
+      (λ e. lt-ltb (length (take 4096 ann)) (vertices s) (omega (arith, ltb-true (length ann) (vertices s) e, length-take 4096 ann)))
+
+  room-front : judged (roomFor s c (take 4096 ann)) (take 4096 ann) ≡ judged (roomFor s c ann) ann
+  unfolding roomFor judged refuse_when_else_
+  room-front =
+      ap (λ (t : Bool). judged (refuse_when_else_ AnnotationBufferTooShort t (proper record { sheet = s; choice = c })) (take 4096 ann)) short-front
+      ∙ by (annotationShort s ann)
+    where
+      by : (t : Bool) → judged (refuse_when_else_ AnnotationBufferTooShort t (proper record { sheet = s; choice = c })) (take 4096 ann)
+          ≡ judged (refuse_when_else_ AnnotationBufferTooShort t (proper record { sheet = s; choice = c })) ann
+      by true = refl
+      by false = ap (λ (t : Bool). Verdict.Found (if t Yes No)) valid-front
+
+-- ---- all three
+judge-front : (s : Sheet) (b ann : List ℕ) → ProperSheet s → judged (bookFor s (take 339 b) (take 4096 ann)) (take 4096 ann) ≡ judged (bookFor s b ann) ann
+unfolding bookFor judged _then_
+judge-front s b ann good = rw (book-front (s .architecture) b (good .architecture)) (by (readBook (s .architecture) b) refl)
+  where
+    by : (k : Reading (List ℕ)) → readBook (s .architecture) b ≡ k
+        → judged (k then λ c. roomFor s c (take 4096 ann)) (take 4096 ann) ≡ judged (k then λ c. roomFor s c ann) ann
+    by (refused r) e = refl
+    by (proper c) e = room-front s c ann good (read-choice (s .architecture) b c e .0)
+
+judge-files : (sheet book ann : List ℕ) → judgeOf (take 418 sheet) (take 339 book) (take 4096 ann) ≡ judgeOf sheet book ann
+unfolding judgeOf bookAndRoom judged _then_
+judge-files sheet book ann = rw (read-prefix sheet) (by (readSheet sheet) refl)
+  where
+    by : (k : Reading Sheet) → readSheet sheet ≡ k
+        → judged (k then λ s. bookFor s (take 339 book) (take 4096 ann)) (take 4096 ann) ≡ judged (k then λ s. bookFor s book ann) ann
+    by (refused r) e = refl
+    by (proper s) e = judge-front s book ann (sheet-proper sheet s e)
+
+pub whole-files : (sheet book annotation : List ℕ) → printed (take 418 sheet) (take 339 book) (take 8192 annotation) ≡ printed sheet book annotation
+unfolding printed
+whole-files sheet book annotation = rw (words-front 4096 annotation) (ap verdictText (judge-files sheet book (wordsOf annotation)))
