@@ -9,6 +9,7 @@ use native.Mathlib.Omega.{arith}
 use lib.Dec.{eqb}
 use lib.ListN.{getD, drop, drop-of-length-le, List·getD-append}
 use lib.Seq.{drop-cons, getD-at}
+use Rattle.model.specs.declared.AutomatonState.{AutomatonState}
 use Rattle.model.specs.Sheet.{Edge}
 use Rattle.architecture.specs.Struct.{processesIn}
 use Rattle.architecture.specs.declared.Architecture.{Architecture}
@@ -48,7 +49,7 @@ module _ (a : Architecture) where
   no-process j e = rw (← e, processes-end (a .inputs) (a .outputs) (a .bounds) (a .processes))
 
 -- ---- edges
-module _ (f t p q : List ℕ) where
+module _ (f t : List AutomatonState) (p q : List ℕ) where
   -- edge j of the list is that of entry j
   edges-at : (n j : ℕ) (d : Edge) → j < n → getD (edgesOf n f t p q) j d ≡ edgeAt f t p q j
   unfolding edgesOf

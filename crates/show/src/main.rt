@@ -34,43 +34,14 @@ fn answer_text(text: &mut [u8; 8192], sheet: &[u8]) -> usize
     }
 }
 
-// Of the sheet in an open file.
-fn show(file: i32) {
+fn main() {
+    let file = input::open(1);
+    if file < 0 {
+        return;
+    }
     let mut sheet = [0u8; ROOM];
     let length = io::read_full(file, &mut sheet);
     let mut text = [0u8; 8192];
     let end = answer_text(&mut text, &sheet[..length]);
     io::write_all(STDOUT_FILENO, &text[..end]);
-}
-
-fn show_file(path: &[u8]) {
-    let file = os::open_read(path);
-    if file < 0 {
-        os::fail(path);
-        return;
-    }
-    show(file);
-    libc::close(file);
-}
-
-// The path is `-`.
-fn is_dash(path: &[u8]) -> bool {
-    if path.len() != 1 {
-        return false;
-    }
-    path[0] == b'-'
-}
-
-fn main() {
-    if os::arg_count() < 2 {
-        show(STDIN_FILENO);
-        return;
-    }
-    let mut path = io::buffer();
-    let length = os::arg(1, &mut path);
-    if is_dash(&path[..length]) {
-        show(STDIN_FILENO);
-        return;
-    }
-    show_file(&path[..length]);
 }
