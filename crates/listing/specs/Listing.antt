@@ -163,7 +163,7 @@ unfoldable pub total : (Entry → ℕ) → List Entry → ℕ
 total exponent [] = 0
 total exponent (e ∷ es) = exponent e + total exponent es
 
--- the composed states, the entries of a choice, and the choices
+-- the composed states, the entries of a choice, and the choices: proofs/ChoicesCounted shows that there are so many
 unfoldable pub countsText : Architecture → List ℕ
 countsText a =
     line composedWord (T a)
