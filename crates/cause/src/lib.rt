@@ -89,3 +89,11 @@ pub fn explain(refusal: Refusal, sheet: &[u8]) {
     }
     say(b"\n");
 }
+
+// The line for a sheet that is refused; none for a proper one.
+pub fn explain_sheet(sheet: &[u8]) {
+    let reply = planner::check(sheet);
+    if let Reply::Refused(refusal) = reply {
+        explain(refusal, sheet);
+    }
+}

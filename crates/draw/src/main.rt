@@ -1,4 +1,4 @@
-// Draws the sheet on standard input for Graphviz: its automaton and, with a book in the file that its first argument names, each process's table.
+// Draws a sheet as one graph for Graphviz: its automaton and, with a book in a second file, each process's table.
 ghost use Prim.Native.Nat.{_<_, _≤_};
 ghost use lib.ListN.{length};
 ghost use Rattle.model.specs.Choice.{entries as entriesOf};
@@ -8,7 +8,6 @@ ghost use Rattle.architecture.specs.Struct.{IsProper, architectureOf};
 use architecture::Architecture;
 use automaton::Automaton;
 use automaton::Edge;
-use libc::STDIN_FILENO;
 use libc::STDOUT_FILENO;
 use model::AutomatonState;
 use model::ProcessState;
@@ -340,14 +339,16 @@ fn close_graph() {
 }
 
 // ---- the sheet and the book
-fn print_refused(refusal: Refusal) {
+// The number, and the cause on standard error.
+fn refuse(refusal: Refusal, sheet: &[u8]) {
     print(b"refused ");
     print_number(refusal.number() as usize);
     print(b"\n");
+    cause::explain(refusal, sheet);
 }
 
 // The book is read before anything is drawn, so that a refusal is the only line.
-fn draw_book(sheet: Sheet, book: &[u8])
+fn draw_book(sheet: Sheet, bytes: &[u8], book: &[u8])
     requires { ⌜ Proper sheet ⌝ }
 {
     let a = sheet.architecture;
@@ -355,7 +356,7 @@ fn draw_book(sheet: Sheet, book: &[u8])
     let reading = book::read_for(a, book);
     let answer = reading.answer;
     match answer {
-        Reply::Refused(refusal) => print_refused(refusal),
+        Reply::Refused(refusal) => refuse(refusal, bytes),
         Reply::Done => {
             open_graph(sheet);
             draw_automaton(automaton);
@@ -366,51 +367,44 @@ fn draw_book(sheet: Sheet, book: &[u8])
     }
 }
 
-// With the book in this file.
-fn draw_file(sheet: Sheet, path: &[u8])
+// With the book that the second argument names, if there is one.
+fn draw_proper(sheet: Sheet, bytes: &[u8])
     requires { ⌜ Proper sheet ⌝ }
 {
-    let file = os::open_read(path);
-    if file < 0 {
-        os::fail(path);
-        return;
-    }
-    let mut book = [0u8; BOOK_ROOM];
-    let length = io::read_full(file, &mut book);
-    libc::close(file);
-    draw_book(sheet, &book[..length]);
-}
-
-// With the book that the first argument names, if there is one.
-fn draw_proper(sheet: Sheet)
-    requires { ⌜ Proper sheet ⌝ }
-{
-    if os::arg_count() < 2 {
+    if os::arg_count() < 3 {
         let automaton = sheet.automaton;
         open_graph(sheet);
         draw_automaton(automaton);
         close_graph();
         return;
     }
-    let mut path = io::buffer();
-    let length = os::arg(1, &mut path);
-    draw_file(sheet, &path[..length]);
+    let file = input::open(2);
+    if file < 0 {
+        return;
+    }
+    let mut book = [0u8; BOOK_ROOM];
+    let length = io::read_full(file, &mut book);
+    draw_book(sheet, bytes, &book[..length]);
 }
 
-fn draw_sheet(sheet: &[u8]) {
-    let reading = sheet::read(sheet);
+fn draw_sheet(bytes: &[u8]) {
+    let reading = sheet::read(bytes);
     let answer = reading.answer;
     match answer {
-        Reply::Refused(refusal) => print_refused(refusal),
+        Reply::Refused(refusal) => refuse(refusal, bytes),
         Reply::Done => {
             let read = reading.sheet;
-            draw_proper(read);
+            draw_proper(read, bytes);
         }
     }
 }
 
 fn main() {
+    let file = input::open(1);
+    if file < 0 {
+        return;
+    }
     let mut sheet = [0u8; SHEET_ROOM];
-    let length = io::read_full(STDIN_FILENO, &mut sheet);
+    let length = io::read_full(file, &mut sheet);
     draw_sheet(&sheet[..length]);
 }

@@ -1,10 +1,10 @@
 // Shows what a sheet says, a line for each record and then the counts, or `refused` and the number.
 // The sheet is in the file that its first argument names, or on standard input without one or with `-`.
+ghost use mathlib.Core.Path.{_≡_};
 ghost use Rattle.model.specs.Numbers.{number};
 ghost use Rattle.text.specs.Text.{refusedText};
 ghost use Rattle.listing.specs.Holds.{Holds};
 ghost use Rattle.show.specs.Shown.{shown};
-use libc::STDIN_FILENO;
 use libc::STDOUT_FILENO;
 use model::Refusal;
 use model::Reply;
@@ -34,6 +34,13 @@ fn answer_text(text: &mut [u8; 8192], sheet: &[u8]) -> usize
     }
 }
 
+// Puts out the text that is due for the bytes of a sheet file: this is all that the program writes on standard output.
+fn put_out(sheet: &[u8], text: &[u8])
+    requires { ⌜ now text ≡ shown (now sheet) ⌝ }
+{
+    io::write_all(STDOUT_FILENO, text);
+}
+
 fn main() {
     let file = input::open(1);
     if file < 0 {
@@ -43,5 +50,6 @@ fn main() {
     let length = io::read_full(file, &mut sheet);
     let mut text = [0u8; 8192];
     let end = answer_text(&mut text, &sheet[..length]);
-    io::write_all(STDOUT_FILENO, &text[..end]);
+    put_out(&sheet[..length], &text[..end]);
+    cause::explain_sheet(&sheet[..length]);
 }

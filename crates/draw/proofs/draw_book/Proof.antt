@@ -11,15 +11,15 @@ whole b = architecture-proper (b .args .sheet) (b .pre)
 
 -- `let reading = book::read_for(a, book)`
 read-for-requires : tie.Need-read-for-requires
-read-for-requires c κs = whole (c .before .before .before)
+read-for-requires c κs = whole (c .before .before .before .before)
 
--- `Reply::Refused(refusal) => print_refused(refusal)`
+-- `Reply::Refused(refusal) => refuse(refusal, bytes)`
 enum-known-answer : tie.Need-enum-known-answer
 enum-known-answer c = search needs
 
--- `Reply::Refused(refusal) => print_refused(refusal)`
-print-refused-requires : tie.Need-print-refused-requires
-print-refused-requires c κs = search needs
+-- `Reply::Refused(refusal) => refuse(refusal, bytes)`
+refuse-requires : tie.Need-refuse-requires
+refuse-requires c κs = search needs
 
 -- `Reply::Done =>`
 enum-told : tie.Need-enum-told
@@ -35,7 +35,7 @@ draw-automaton-requires c κs = search needs
 
 -- `draw_tables(a, &tables)`
 draw-tables-requires : tie.Need-draw-tables-requires
-draw-tables-requires c κs = whole (c .before .before .before .before .before .before .before .before .before .before)
+draw-tables-requires c κs = whole (c .before .before .before .before .before .before .before .before .before .before .before)
 
 -- `close_graph()`
 close-graph-requires : tie.Need-close-graph-requires
@@ -55,7 +55,7 @@ draw-book-spec =
     (tie.spec
     read-for-requires
     enum-known-answer
-    print-refused-requires
+    refuse-requires
     enum-told
     open-graph-requires
     draw-automaton-requires

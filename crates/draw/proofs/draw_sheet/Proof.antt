@@ -4,23 +4,23 @@ use Rattle.sheet.proofs.AnswersOfReading.{read-is-proper}
 use Rattle.draw.proofs.draw_sheet.Statement.{statement}
 use Rattle.draw.proofs.draw_sheet.Tie as tie
 
--- `let reading = sheet::read(sheet)`
+-- `let reading = sheet::read(bytes)`
 read-requires : tie.Need-read-requires
 read-requires c κs = search needs
 
--- `Reply::Refused(refusal) => print_refused(refusal)`
+-- `Reply::Refused(refusal) => refuse(refusal, bytes)`
 enum-known-answer : tie.Need-enum-known-answer
 enum-known-answer c = search needs
 
--- `Reply::Refused(refusal) => print_refused(refusal)`
-print-refused-requires : tie.Need-print-refused-requires
-print-refused-requires c κs = search needs
+-- `Reply::Refused(refusal) => refuse(refusal, bytes)`
+refuse-requires : tie.Need-refuse-requires
+refuse-requires c κs = search needs
 
 -- `let read = reading.sheet`
 enum-told : tie.Need-enum-told
 enum-told c = search needs
 
--- `draw_proper(read)`
+-- `draw_proper(read, bytes)`
 draw-proper-requires : tie.Need-draw-proper-requires
 draw-proper-requires c κs =
     let r = c .before .before .before .read in
@@ -40,7 +40,7 @@ draw-sheet-spec =
     (tie.spec
     read-requires
     enum-known-answer
-    print-refused-requires
+    refuse-requires
     enum-told
     draw-proper-requires
     returns
