@@ -1,42 +1,51 @@
-// Checks the sheet in the file that its first argument names, case A without one: `proper`, or `refused` and the number.
+// Checks the sheet in a file or on standard input: prints `proper`, or `refused` and the number, with the cause on standard error.
+ghost use mathlib.Core.Path.{_≡_};
+ghost use Rattle.text.specs.Holds.{Holds};
+ghost use Rattle.checksheet.specs.Printed.{replyText, printed};
 use libc::STDOUT_FILENO;
 use model::Reply;
 
 // One byte more than the longest proper sheet, so that a byte after EN is seen.
 const ROOM: usize = 418;
 
-fn print(reply: Reply) {
+// The text of a reply, at the front of the buffer: answers its length.
+fn reply_text(text: &mut [u8; 1024], reply: Reply) -> usize
+    ensures { λ r. ⌜ Holds (now (text .exit)) r (replyText reply) ⌝ }
+{
     match reply {
-        Reply::Done => {
-            io::write_all(STDOUT_FILENO, b"proper\n");
-        }
-        Reply::Refused(refusal) => {
-            io::write_all(STDOUT_FILENO, b"refused ");
-            io::print_decimal(STDOUT_FILENO, refusal.number() as u64);
-            io::write_all(STDOUT_FILENO, b"\n");
-        }
+        Reply::Refused(refusal) => text::refused_text(text, refusal),
+        Reply::Done => text::proper_text(text),
     }
 }
 
-fn check_file(path: &[u8]) {
-    let file = os::open_read(path);
+// Puts out the text that is due for the bytes of a sheet file: this is all that the program writes on standard output.
+fn put_out(sheet: &[u8], text: &[u8])
+    requires { ⌜ now text ≡ printed (now sheet) ⌝ }
+{
+    io::write_all(STDOUT_FILENO, text);
+}
+
+// The answer for the bytes of a sheet file, and the cause of a refusal.
+fn answer(sheet: &[u8]) {
+    let reply = planner::check(sheet);
+    let mut text = [0u8; 1024];
+    let end = reply_text(&mut text, reply);
+    put_out(sheet, &text[..end]);
+    if let Reply::Refused(refusal) = reply {
+        cause::explain(refusal, sheet);
+    }
+}
+
+fn main() {
+    if os::arg_count() > 2 {
+        input::usage(b"check [SHEET]");
+        return;
+    }
+    let file = input::open(1);
     if file < 0 {
-        os::fail(path);
         return;
     }
     let mut sheet = [0u8; ROOM];
     let length = io::read_full(file, &mut sheet);
-    libc::close(file);
-    print(planner::check(&sheet[..length]));
-}
-
-fn main() {
-    if os::arg_count() < 2 {
-        let sheet = sheet::sheet_a();
-        print(planner::check(&sheet));
-        return;
-    }
-    let mut path = io::buffer();
-    let length = os::arg(1, &mut path);
-    check_file(&path[..length]);
+    answer(&sheet[..length]);
 }

@@ -36,7 +36,8 @@ use Rattle.graph.proofs.ChoiceAtFront.{chosen-tables}
 use Rattle.graph.proofs.TablesOfChoice.{vertices-few}
 use Rattle.text.specs.Text.{textOf, noneText, refusedText}
 use Rattle.text.proofs.TextReads.{text-front}
-use Rattle.find.specs.Printed.{choiceText, sheetText, printed, found}
+use Rattle.words.specs.Words.{bytesOf}
+use Rattle.find.specs.Printed.{choiceText, sheetText, printed, bookFile, annotationFile, left, found}
 
 -- the choice whose book and annotation the buffers have at the front
 pub record Chose (s : Sheet) (book ann : List ℕ) : Type 0 where
@@ -123,11 +124,13 @@ module _ (b old-book old-ann : List ℕ) (book-room : 338 ≤ length old-book) (
       by (refused q) e = let z : Outcome.Refused q ≡ Outcome.Nothing = sym (find-refused q e) ∙ f in let y : _≡_ {A = ℕ} 0 1 = cc in absurd (omega arith)
       by (proper s) e = chosen s (firstChoice s) (sym (ap (λ (a : AfterFind). a .answer) (find-proper s e)) ∙ f)
 
--- find left tables, as its three promises say
+-- find left this, as its three promises say
+pub left-so : (x : AfterFind) (o : Outcome) (book ann : List ℕ) → o ≡ x .answer → book ≡ x .book → ann ≡ x .annotation → x ≡ left o book ann
+left-so x o book ann e eb ea = rw (e, eb, ea)
+
+-- it left tables
 pub left-tables : (x : AfterFind) (o : Outcome) (book ann : List ℕ) → o ≡ x .answer → book ≡ x .book → ann ≡ x .annotation → o ≡ Outcome.Tables → x ≡ found book ann
-left-tables x o book ann e eb ea t =
-    let answer : x .answer ≡ Outcome.Tables = sym e ∙ t in
-    rw (eb, ea, ← answer)
+left-tables x o book ann e eb ea t = left-so x o book ann e eb ea ∙ ap (λ (y : Outcome). left y book ann) t
 
 -- ---- the sheet that was read
 refused≢tables : (r : Refusal) → ¬ (Outcome.Refused r ≡ Outcome.Tables)
@@ -171,12 +174,17 @@ module _ (s : Sheet) (book ann : List ℕ) (h : Chose s book ann) where
   book-whole n e = rw e (sym (ap length (h .book-is) ∙ book-length (s .architecture) (h .choice)))
 
   -- where the annotation ends
-  pub annotation-ends : (n : ℕ) → n ≡ T (s .architecture) → s .automaton .states * n ≡ vertices s
-  unfolding vertices
-  annotation-ends n e = rw e
-
   pub annotation-counted : (n : ℕ) → n ≡ vertices s → n ≡ length (take n ann)
   annotation-counted n e = rw e (sym (ap length (h .annotation-is) ∙ annotation-whole s (h .choice)))
+
+  -- the files
+  pub book-file : (n : ℕ) → n ≡ bookLength (s .architecture) → take n book ≡ bookFile s (firstChoice s)
+  unfolding bookFile
+  book-file n e = rw (h .first, e) (h .book-is)
+
+  pub annotation-file : (n : ℕ) → n ≡ vertices s → bytesOf (take n ann) ≡ annotationFile s (firstChoice s)
+  unfolding annotationFile
+  annotation-file n e = rw (h .first, e) (ap bytesOf (h .annotation-is))
 
   -- the tables that are read back
   module _ (n : ℕ) (e : n ≡ bookLength (s .architecture)) (r : TablesRead) (q : afterRead r ≡ gave (readBook (s .architecture) (take n book))) where

@@ -1,11 +1,11 @@
-// Finds tables for the sheet on standard input: prints them with the greatest number of their annotation, `none`, or `refused` and the number.
+// Finds tables for the sheet in a file or on standard input: prints them with the greatest number of their annotation, `none`, or `refused` and the
+// number, with the cause on standard error. With two more names it writes the book and the annotation to these files.
 ghost use mathlib.Core.Path.{_≡_};
 ghost use Rattle.model.specs.Computed.{firstChoice};
 ghost use Rattle.model.specs.Calls.{findChoice, findOf};
 ghost use Rattle.sheet.specs.Struct.{sheetOf, IsProper};
 ghost use Rattle.text.specs.Holds.{Holds};
-ghost use Rattle.find.specs.Printed.{choiceText, printed, found, book₀, annotation₀};
-use libc::STDIN_FILENO;
+ghost use Rattle.find.specs.Printed.{choiceText, printed, bookFile, annotationFile, left, found, book₀, annotation₀};
 use libc::STDOUT_FILENO;
 use model::Outcome;
 use sheet::Sheet;
@@ -20,12 +20,10 @@ fn choice_text(text: &mut [u8; 1024], sheet: Sheet, book: &[u8], annotation: &[u
     ensures { λ r. ⌜ Holds (now (text .exit)) r (choiceText (sheetOf sheet) (firstChoice (sheetOf sheet))) ⌝ }
 {
     let a = sheet.architecture;
-    let automaton = sheet.automaton;
-    let mut slots = [0u16; 338];
-    let length = layout::fill_slots(&mut slots, a);
+    let length = sizes::book_length(a);
     let read = book::read_for(a, &book[..length]);
     let tables = read.tables;
-    let vertices = automaton.states as usize * a.composed_states();
+    let vertices = sizes::vertices(sheet);
     text::tables_text(text, a, &tables, &annotation[..vertices])
 }
 
@@ -39,31 +37,98 @@ fn found_text(text: &mut [u8; 1024], sheet: &[u8], book: &[u8], annotation: &[u1
     choice_text(text, read, book, annotation)
 }
 
-// The text for the bytes of a sheet file, at the front of the buffer: answers its length.
-fn answer_text(text: &mut [u8; 1024], sheet: &[u8]) -> usize
+// The text of what find answered, at the front of the buffer: answers its length.
+fn outcome_text(
+    text: &mut [u8; 1024],
+    sheet: &[u8],
+    outcome: Outcome,
+    book: &[u8],
+    annotation: &[u16],
+) -> usize
+    requires { ⌜ findOf (now sheet) book₀ annotation₀ ≡ left outcome (now book) (now annotation) ⌝ }
     ensures { λ r. ⌜ Holds (now (text .exit)) r (printed (now (sheet .entry))) ⌝ }
 {
-    let mut book = [0u8; 338];
-    let mut annotation = [0u16; 4096];
-    let outcome = planner::find(sheet, &mut book, &mut annotation);
     match outcome {
         Outcome::Refused(refusal) => text::refused_text(text, refusal),
         Outcome::Nothing => text::none_text(text),
-        Outcome::Tables => found_text(text, sheet, &book, &annotation),
+        Outcome::Tables => found_text(text, sheet, book, annotation),
     }
 }
 
-// Puts out the text that is due for the bytes of a sheet file: this is all that the program writes.
+// Puts out the text that is due for the bytes of a sheet file: this is all that the program writes on standard output.
 fn put_out(sheet: &[u8], text: &[u8])
     requires { ⌜ now text ≡ printed (now sheet) ⌝ }
 {
     io::write_all(STDOUT_FILENO, text);
 }
 
-fn main() {
-    let mut sheet = [0u8; ROOM];
-    let length = io::read_full(STDIN_FILENO, &mut sheet);
+// ---- the files
+// Writes the book of the first choice that keeps the sheet.
+fn save_book(sheet: Sheet, book: &[u8])
+    requires { ⌜ now book ≡ bookFile (sheetOf sheet) (firstChoice (sheetOf sheet)) ⌝ }
+{
+    input::save(2, book);
+}
+
+// Writes its annotation.
+fn save_annotation(sheet: Sheet, annotation: &[u8])
+    requires { ⌜ now annotation ≡ annotationFile (sheetOf sheet) (firstChoice (sheetOf sheet)) ⌝ }
+{
+    input::save(3, annotation);
+}
+
+// Of a proper sheet: writes what find put into the buffers.
+fn save_choice(sheet: Sheet, book: &[u8], annotation: &[u16])
+    requires { ⌜ IsProper sheet ⌝ }
+    requires { ⌜ findChoice (sheetOf sheet) (firstChoice (sheetOf sheet)) book₀ annotation₀ ≡ found (now book) (now annotation) ⌝ }
+{
+    let a = sheet.architecture;
+    let length = sizes::book_length(a);
+    save_book(sheet, &book[..length]);
+    let vertices = sizes::vertices(sheet);
+    let mut bytes = [0u8; 8192];
+    let end = words::to_bytes(&mut bytes, &annotation[..vertices]);
+    save_annotation(sheet, &bytes[..end]);
+}
+
+// Writes what find put into the buffers, where files are named for it.
+fn save_found(sheet: &[u8], book: &[u8], annotation: &[u16])
+    requires { ⌜ findOf (now sheet) book₀ annotation₀ ≡ found (now book) (now annotation) ⌝ }
+{
+    if os::arg_count() < 4 {
+        return;
+    }
+    let reading = sheet::read(sheet);
+    let read = reading.sheet;
+    save_choice(read, book, annotation);
+}
+
+// The answer for the bytes of a sheet file, with the files or the cause of a refusal.
+fn answer(sheet: &[u8]) {
+    let mut book = [0u8; 338];
+    let mut annotation = [0u16; 4096];
+    let outcome = planner::find(sheet, &mut book, &mut annotation);
     let mut text = [0u8; 1024];
-    let end = answer_text(&mut text, &sheet[..length]);
-    put_out(&sheet[..length], &text[..end]);
+    let end = outcome_text(&mut text, sheet, outcome, &book, &annotation);
+    put_out(sheet, &text[..end]);
+    match outcome {
+        Outcome::Refused(refusal) => cause::explain(refusal, sheet),
+        Outcome::Nothing => {}
+        Outcome::Tables => save_found(sheet, &book, &annotation),
+    }
+}
+
+fn main() {
+    let count = os::arg_count();
+    if count == 3 || count > 4 {
+        input::usage(b"find [SHEET], or find SHEET BOOK ANNOTATION");
+        return;
+    }
+    let file = input::open(1);
+    if file < 0 {
+        return;
+    }
+    let mut sheet = [0u8; ROOM];
+    let length = io::read_full(file, &mut sheet);
+    answer(&sheet[..length]);
 }

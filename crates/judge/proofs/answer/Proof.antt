@@ -28,7 +28,7 @@ put-out-requires : tie.Need-put-out-requires
 unfolding printed
 put-out-requires c κs = rw (← c .before .before .before .judge-files .ensures) (c .before .verdict-text .ensures .is)
 
--- `if let Verdict::Refused(refusal) = verdict {`
+-- `if let Verdict::Refused(refusal) = verdict`
 enum-known-verdict : tie.Need-enum-known-verdict
 enum-known-verdict c = search needs
 
@@ -36,14 +36,15 @@ enum-known-verdict c = search needs
 explain-requires : tie.Need-explain-requires
 explain-requires c κs = search needs
 
+-- `if let Verdict::Refused(refusal) = verdict`
 enum-told : tie.Need-enum-told
 enum-told c = search needs
 
--- `}`
+-- `if let Verdict::Refused(refusal) = verdict`
 returns : tie.Need-returns
 returns c = search needs
 
--- `}`
+-- `if let Verdict::Refused(refusal) = verdict`
 returns-2 : tie.Need-returns-2
 returns-2 c = search needs
 

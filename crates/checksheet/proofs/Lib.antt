@@ -1,0 +1,2 @@
+-- the program's answer is that of the whole file
+pub mod WholeFile
