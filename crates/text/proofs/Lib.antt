@@ -4,4 +4,3 @@ pub mod DecimalLaws
 pub mod RowTexts
 pub mod TextShort
 pub mod TextReads
-pub mod CaseA
