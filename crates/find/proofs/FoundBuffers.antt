@@ -2,23 +2,20 @@
 use mathlib.Core.Path.{_≡_, refl, sym, ap, _∙_, subst}
 use mathlib.Core.List.{List}
 use mathlib.Core.Option.{Option, none, some}
-use Prim.Native.Nat.{ℕ, _*_, _≤_}
+use Prim.Native.Nat.{ℕ, _≤_}
 use native.Mathlib.Omega.{arith}
 use lib.ListN.{length, take, drop, replicate}
 use lib.Seq.{take-at}
 use borrow.Author.Tests.{le-ltb}
-use Rattle.theory.proofs.AnnotationLaws.{annotation-length}
 use Rattle.model.specs.declared.Refusal.{Refusal}
 use Rattle.model.specs.declared.Refusal.the-variants.{BookBufferTooShort, AnnotationBufferTooShort}
 use Rattle.model.specs.declared.Outcome.{Outcome}
-use Rattle.model.specs.declared.Reply.{Reply}
 use Rattle.model.specs.Reading as model
 use Rattle.model.specs.Sheet.{Architecture, Sheet, ProperSheet}
 use Rattle.model.specs.Reading.{refused, proper, refuse_when_else_, _then_, readSheet}
-use Rattle.model.specs.Compose.{T}
 use Rattle.model.specs.Choice.{entries, IsChoice}
-use Rattle.model.specs.RunGraph.{vertices, blank}
-use Rattle.model.specs.Computed.{runGraph, annotation, keeps, firstChoice}
+use Rattle.model.specs.RunGraph.{vertices}
+use Rattle.model.specs.Computed.{annotation, keeps, firstChoice}
 use Rattle.model.specs.Book.{form, bookLength, bookOf, readBook}
 use Rattle.model.specs.Calls.{AfterFind, AfterRead, front, bookShort, annotationShort, roomToFind, findSheet, findChoice, findIn, findOf, tablesOf, gave}
 use Rattle.model.specs.Numbers.{number}
@@ -27,13 +24,14 @@ use Rattle.model.proofs.Sizes.{book-short}
 use Rattle.model.proofs.BookInverse.{filled-length}
 use Rattle.model.proofs.BookRead.{choice-read}
 use Rattle.model.proofs.FirstInOrder.{first-some, entries-small}
-use Rattle.sheet.specs.declared.Sheet as sheets
 use Rattle.sheet.specs.declared.Reading.{Reading}
-use Rattle.sheet.specs.Struct.{sheetOf, readingAs, readingOf}
+use Rattle.sheet.specs.Struct.{sheetOf, readingOf}
 use Rattle.book.specs.declared.TablesRead.{TablesRead}
 use Rattle.book.specs.Answers.{afterRead}
 use Rattle.graph.proofs.ChoiceAtFront.{chosen-tables}
 use Rattle.graph.proofs.TablesOfChoice.{vertices-few}
+use Rattle.sizes.proofs.AnnotationWhole.{annotation-whole}
+use Rattle.sizes.proofs.SheetRead.{reading-is}
 use Rattle.text.specs.Text.{textOf, noneText, refusedText}
 use Rattle.text.proofs.TextReads.{text-front}
 use Rattle.words.specs.Words.{bytesOf}
@@ -50,10 +48,6 @@ pub record Chose (s : Sheet) (book ann : List ℕ) : Type 0 where
 book-length : (a : Architecture) (c : List ℕ) → length (bookOf a c) ≡ bookLength a
 unfolding bookOf bookLength
 book-length a c = filled-length (form a) c
-
-annotation-whole : (s : Sheet) (c : List ℕ) → length (annotation s c) ≡ vertices s
-unfolding annotation runGraph
-annotation-whole s c = annotation-length (runGraph s c) 0 blank
 
 front-is : (new old : List ℕ) (n : ℕ) → length new ≡ n → take n (front new old) ≡ new
 unfolding front
@@ -141,9 +135,6 @@ pub record Proper (b : List ℕ) (s : Sheet) (old-book old-ann book ann : List �
   pub is : readSheet b ≡ proper s
   pub finds : findChoice s (firstChoice s) old-book old-ann ≡ found book ann
 
-same-sheet : (s s′ : Sheet) → proper s ≡ proper s′ → s ≡ s′
-same-sheet s s′ e = cc
-
 not-refused : (b old-book old-ann : List ℕ) (s : Sheet) → findSheet b old-book old-ann ≡ proper s → readSheet b ≡ proper s
 unfolding findSheet roomToFind
 not-refused b old-book old-ann s e =
@@ -151,11 +142,6 @@ not-refused b old-book old-ann s e =
     let h₂ = passes BookBufferTooShort (bookShort (h₁ .0 .architecture) old-book) _ (h₁ .2) in
     let h₃ = passes AnnotationBufferTooShort (annotationShort (h₁ .0) old-ann) _ (h₂ .1) in
     h₁ .1 ∙ h₃ .1
-
-reading-is : (a : Reply) (x : sheets.Sheet) (s : Sheet) → readingAs a x ≡ proper s → sheetOf x ≡ s
-unfolding readingAs
-reading-is Reply.Done x s e = same-sheet (sheetOf x) s e
-reading-is (Reply.Refused r) x s e = let z : _≡_ {A = ℕ} 0 1 = cc in absurd (omega arith)
 
 pub found-proper : (b old-book old-ann book ann : List ℕ) (r : Reading) → readingOf r ≡ readSheet b → findOf b old-book old-ann ≡ found book ann
     → Proper b (sheetOf (r .sheet)) old-book old-ann book ann

@@ -1,55 +1,35 @@
 -- The program reads the first 418 bytes of a sheet, 339 of a book and 8,192 of an annotation: what it prints for them is the text for the whole files. A book
 -- that is longer than 338 bytes is refused either way, and a judge looks at no number behind those of the vertices, which are at most 4,096.
 use mathlib.Core.Path.{_≡_, refl, sym, ap, _∙_}
-use mathlib.Core.Bool.{Bool, true, false, not}
+use mathlib.Core.Bool.{Bool, true, false}
 use mathlib.Core.List.{List}
-use Prim.Native.Nat.{ℕ, _≤_, _<_}
+use Prim.Native.Nat.{ℕ, _<_}
 use native.Mathlib.Omega.{arith}
-use native.Mathlib.Decide.{decLe}
 use lib.ListN.{length, getD, take, length-take}
-use lib.Seq.{take-all, getD-take}
+use lib.Seq.{getD-take}
 use borrow.Author.Tests.{ltb-true, lt-ltb}
 use Rattle.theory.specs.Graph.{Graph, Finite, Valid}
 use Rattle.theory.proofs.ValidLaws.{valid-right}
-use Rattle.model.specs.declared.Refusal.the-variants.{BadBook, AnnotationBufferTooShort}
+use Rattle.model.specs.declared.Refusal.the-variants.{AnnotationBufferTooShort}
 use Rattle.model.specs.declared.Finding.the-variants.{Yes, No}
 use Rattle.model.specs.declared.Verdict.{Verdict}
 use Rattle.model.specs.Mask.{if}
-use Rattle.model.specs.Sheet.{Architecture, Sheet, ProperSheet, ProperArchitecture}
+use Rattle.model.specs.Sheet.{Sheet, ProperSheet}
 use Rattle.model.specs.Reading.{Reading, refused, proper, refuse_when_else_, _then_, readSheet}
 use Rattle.model.specs.Choice.{IsChoice}
 use Rattle.model.specs.RunGraph.{vertices, blank}
 use Rattle.model.specs.Computed.{runGraph, valid}
-use Rattle.model.specs.Book.{form, bookLength, wellFormed, entriesIn, bookFault, readBook}
+use Rattle.model.specs.Book.{readBook}
 use Rattle.model.specs.Calls.{Chosen, annotationShort, roomFor, bookFor, bookAndRoom, judged, judgeOf}
 use Rattle.model.proofs.Prefix.{read-prefix}
 use Rattle.model.proofs.ProperSheet.{sheet-proper}
-use Rattle.model.proofs.Refusing.{stop}
-use Rattle.model.proofs.BookInverse.{filled-length, read-filled}
 use Rattle.model.proofs.BookRead.{read-choice}
 use Rattle.model.proofs.RunGraphSteps.{graph-finite}
-use Rattle.model.proofs.Sizes.{book-short}
 use Rattle.graph.proofs.TablesOfChoice.{vertices-few}
+use Rattle.sizes.proofs.BookFront.{book-front}
 use Rattle.words.specs.Words.{wordsOf}
 use Rattle.words.proofs.WordLaws.{words-front}
 use Rattle.judge.specs.Printed.{verdictText, printed}
-
--- ---- the book
--- a book that is longer than its sheet allows is refused with 10
-too-long : (a : Architecture) (b : List ℕ) → bookLength a < length b → readBook a b ≡ refused BadBook
-unfolding readBook bookFault bookLength
-too-long a b h = stop BadBook _ (ap not (by (wellFormed (form a) b) refl))
-  where
-    by : (t : Bool) → wellFormed (form a) b ≡ t → wellFormed (form a) b ≡ false
-    by false e = e
-    by true e = absurd (omega (arith, ap length (read-filled (form a) b e), filled-length (form a) (entriesIn (form a) b)))
-
-book-front : (a : Architecture) (b : List ℕ) → ProperArchitecture a → readBook a (take 339 b) ≡ readBook a b
-book-front a b good = by (decLe (length b) 339)
-  where
-    by : Dec (length b ≤ 339) → readBook a (take 339 b) ≡ readBook a b
-    by (yes h) = ap (readBook a) (take-all 339 b h)
-    by (no h) = too-long a (take 339 b) (omega (arith, length-take 339 b, book-short a good)) ∙ sym (too-long a b (omega (arith, book-short a good)))
 
 -- ---- the annotation
 -- numbers that agree on the vertices are valid alike

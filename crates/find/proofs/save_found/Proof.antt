@@ -6,7 +6,7 @@ use Rattle.find.proofs.FoundBuffers.{found-proper}
 use Rattle.find.proofs.save_found.Statement.{statement}
 use Rattle.find.proofs.save_found.Tie as tie
 
--- `if os::arg_count() < 4 {`
+-- `if os::arg_count() < 4`
 arg-count-requires : tie.Need-arg-count-requires
 arg-count-requires c κs = search needs
 

@@ -1,0 +1,150 @@
+-- What annotate left in the buffer of the program, and what it answered.
+use mathlib.Core.Path.{_≡_, refl, sym, ap, _∙_}
+use mathlib.Core.Bool.{Bool, true, false}
+use mathlib.Core.List.{List}
+use Prim.Native.Nat.{ℕ}
+use native.Mathlib.Omega.{arith}
+use lib.ListN.{length, take, drop, length-replicate}
+use lib.Seq.{take-at}
+use borrow.Author.Tests.{le-ltb}
+use Rattle.model.specs.declared.Refusal.{Refusal}
+use Rattle.model.specs.declared.Refusal.the-variants.{AnnotationBufferTooShort}
+use Rattle.model.specs.declared.Finding.the-variants.{Yes, No}
+use Rattle.model.specs.declared.Verdict.{Verdict}
+use Rattle.model.specs.Mask.{if}
+use Rattle.model.specs.Reading as model
+use Rattle.model.specs.Sheet.{Sheet}
+use Rattle.model.specs.Reading.{refused, proper, _then_, readSheet}
+use Rattle.model.specs.RunGraph.{vertices}
+use Rattle.model.specs.Computed.{loops, annotation}
+use Rattle.model.specs.Book.{readBook}
+use Rattle.model.specs.Calls.{Chosen, AfterAnnotate, front, annotationShort, roomFor, bookFor, bookAndRoom, annotatedBy, annotated, annotateOf}
+use Rattle.model.specs.Numbers.{number}
+use Rattle.model.proofs.ProperSheet.{goes-on, same-proper, sheet-proper}
+use Rattle.model.proofs.Refusing.{go}
+use Rattle.sheet.specs.declared.Reading.{Reading}
+use Rattle.sheet.specs.Struct.{sheetOf, readingOf}
+use Rattle.graph.proofs.TablesOfChoice.{vertices-few}
+use Rattle.sizes.proofs.AnnotationWhole.{annotation-whole}
+use Rattle.sizes.proofs.SheetRead.{reading-is}
+use Rattle.text.specs.Text.{greatestText, loopText, refusedText}
+use Rattle.words.specs.Words.{bytesOf}
+use Rattle.annotate.specs.Printed.{chosenIn, chosenText, chosenFile, printed, annotation₀, left}
+use Rattle.annotate.proofs.ZerosBehind.{text-front}
+
+-- annotate left this, as its two promises say
+pub left-so : (x : AfterAnnotate) (v : Verdict) (ann : List ℕ) → v ≡ x .answer → ann ≡ x .annotation → x ≡ left v ann
+left-so x v ann e ea = rw (e, ea)
+
+-- it left an annotation
+pub left-annotated : (x : AfterAnnotate) (v : Verdict) (ann : List ℕ) → v ≡ x .answer → ann ≡ x .annotation → v ≡ Verdict.Found Yes → x ≡ left (Verdict.Found Yes) ann
+left-annotated x v ann e ea t = left-so x v ann e ea ∙ ap (λ (y : Verdict). left y ann) t
+
+-- ---- there is room for every annotation
+choice-of : (book : List ℕ) → Sheet → model.Reading Chosen
+choice-of book s = readBook (s .architecture) book then λ c. proper record { sheet = s; choice = c }
+
+room-is : (s : Sheet) (c : List ℕ) (b : List ℕ) → readSheet b ≡ proper s → roomFor s c annotation₀ ≡ proper record { sheet = s; choice = c }
+unfolding roomFor annotationShort
+room-is s c b e = go AnnotationBufferTooShort _ (le-ltb (length annotation₀) (vertices s) (omega (arith, length-replicate {A = ℕ} 4096 0, vertices-few s (sheet-proper b s e))))
+
+chosen-is : (sheet book : List ℕ) → bookAndRoom sheet book annotation₀ ≡ chosenIn sheet book
+unfolding bookAndRoom bookFor chosenIn _then_
+chosen-is sheet book = by (readSheet sheet) refl
+  where
+    inner : (s : Sheet) → readSheet sheet ≡ proper s → (k : model.Reading (List ℕ))
+        → (k then λ c. roomFor s c annotation₀) ≡ (k then λ c. proper record { sheet = s; choice = c })
+    inner s e (refused r) = refl
+    inner s e (proper c) = room-is s c sheet e
+
+    by : (k : model.Reading Sheet) → readSheet sheet ≡ k
+        → (k then λ s. bookFor s book annotation₀) ≡ (k then λ s. (readBook (s .architecture) book then λ c. proper record { sheet = s; choice = c }))
+    by (refused r) e = refl
+    by (proper s) e = inner s e (readBook (s .architecture) book)
+
+module _ (sheet book : List ℕ) where
+  answers : annotateOf sheet book annotation₀ ≡ annotated (chosenIn sheet book) annotation₀
+  unfolding annotateOf
+  answers = ap (λ (k : model.Reading Chosen). annotated k annotation₀) (chosen-is sheet book)
+
+  -- ---- the text of each answer
+  pub says-refused : (r : Refusal) → annotateOf sheet book annotation₀ .answer ≡ Verdict.Refused r → printed sheet book ≡ refusedText (number r)
+  unfolding printed chosenText annotated annotatedBy
+  says-refused r e = by (chosenIn sheet book) (ap (λ (x : AfterAnnotate). x .answer) (sym answers) ∙ e)
+    where
+      never : (x : Chosen) (t : Bool) → ¬ (annotatedBy x t annotation₀ .answer ≡ Verdict.Refused r)
+      never x true e = let z : _≡_ {A = ℕ} 0 1 = cc in omega arith
+      never x false e = let z : _≡_ {A = ℕ} 0 1 = cc in omega arith
+
+      by : (k : model.Reading Chosen) → annotated k annotation₀ .answer ≡ Verdict.Refused r → chosenText k ≡ refusedText (number r)
+      by (refused q) e = let same : q ≡ r = cc in ap (λ (x : Refusal). refusedText (number x)) same
+      by (proper x) e = absurd (never x (loops (x .sheet) (x .choice)) e)
+
+  pub says-loop : annotateOf sheet book annotation₀ .answer ≡ Verdict.Found No → printed sheet book ≡ loopText
+  unfolding printed chosenText annotated annotatedBy if
+  says-loop e = by (chosenIn sheet book) (ap (λ (x : AfterAnnotate). x .answer) (sym answers) ∙ e)
+    where
+      inner : (x : Chosen) (t : Bool) → annotatedBy x t annotation₀ .answer ≡ Verdict.Found No → if t loopText (greatestText (annotation (x .sheet) (x .choice))) ≡ loopText
+      inner x true e = refl
+      inner x false e = let z : _≡_ {A = ℕ} 0 1 = cc in absurd (omega arith)
+
+      by : (k : model.Reading Chosen) → annotated k annotation₀ .answer ≡ Verdict.Found No → chosenText k ≡ loopText
+      by (refused q) e = let z : _≡_ {A = ℕ} 0 1 = cc in absurd (omega arith)
+      by (proper x) e = inner x (loops (x .sheet) (x .choice)) e
+
+-- ---- an annotation was left
+pub record Annotated (sheet book ann : List ℕ) : Type 0 where
+  pub chosen : Chosen
+  pub is : chosenIn sheet book ≡ proper chosen
+  pub text : chosenText (proper chosen) ≡ greatestText (annotation (chosen .sheet) (chosen .choice))
+  pub left-is : ann ≡ front (annotation (chosen .sheet) (chosen .choice)) annotation₀
+
+pub was-annotated : (sheet book ann : List ℕ) → annotateOf sheet book annotation₀ ≡ left (Verdict.Found Yes) ann → Annotated sheet book ann
+unfolding chosenText annotated annotatedBy if
+was-annotated sheet book ann e = by (chosenIn sheet book) refl (sym (answers sheet book) ∙ e)
+  where
+    inner : (x : Chosen) (t : Bool) → chosenIn sheet book ≡ proper x → loops (x .sheet) (x .choice) ≡ t → annotatedBy x t annotation₀ ≡ left (Verdict.Found Yes) ann → Annotated sheet book ann
+    inner x true is l e = let z : Verdict.Found No ≡ Verdict.Found Yes = ap (λ (y : AfterAnnotate). y .answer) e in let y : _≡_ {A = ℕ} 0 1 = cc in absurd (omega arith)
+    inner x false is l e = record {
+      chosen = x;
+      is = is;
+      text = rw l;
+      left-is = sym (ap (λ (y : AfterAnnotate). y .annotation) e);
+    }
+
+    by : (k : model.Reading Chosen) → chosenIn sheet book ≡ k → annotated k annotation₀ ≡ left (Verdict.Found Yes) ann → Annotated sheet book ann
+    by (refused q) is e = let z : Verdict.Refused q ≡ Verdict.Found Yes = ap (λ (y : AfterAnnotate). y .answer) e in let y : _≡_ {A = ℕ} 0 1 = cc in absurd (omega arith)
+    by (proper x) is e = inner x (loops (x .sheet) (x .choice)) is refl e
+
+-- the text is that of the buffer
+pub says-greatest : (sheet book ann : List ℕ) → annotateOf sheet book annotation₀ ≡ left (Verdict.Found Yes) ann → printed sheet book ≡ greatestText ann
+unfolding printed
+says-greatest sheet book ann e =
+    let a = was-annotated sheet book ann e in
+    ap chosenText (a .is) ∙ a .text ∙ sym (text-front (annotation (a .chosen .sheet) (a .chosen .choice))) ∙ ap greatestText (sym (a .left-is))
+
+-- ---- the sheet that is read for the file
+pub record Read (sheet book ann : List ℕ) (s : Sheet) : Type 0 where
+  pub is : readSheet sheet ≡ proper s
+  pub counted : (n : ℕ) → n ≡ vertices s → n ≡ length (take n ann)
+  pub file : (n : ℕ) → n ≡ vertices s → bytesOf (take n ann) ≡ chosenFile (chosenIn sheet book)
+
+taken : (s : Sheet) (c : List ℕ) (n : ℕ) → n ≡ vertices s → take n (front (annotation s c) annotation₀) ≡ annotation s c
+unfolding front
+taken s c n e = take-at (annotation s c) (drop (length (annotation s c)) annotation₀) n (annotation-whole s c ∙ sym e)
+
+pub read-so : (sheet book ann : List ℕ) (r : Reading) → readingOf r ≡ readSheet sheet → annotateOf sheet book annotation₀ ≡ left (Verdict.Found Yes) ann
+    → Read sheet book ann (sheetOf (r .sheet))
+unfolding chosenIn chosenFile choice-of
+read-so sheet book ann r q e =
+    let a = was-annotated sheet book ann e in
+    let s = a .chosen .sheet in
+    let c = a .chosen .choice in
+    let h₁ = goes-on (readSheet sheet) (choice-of book) (a .is) in
+    let h₂ = goes-on (readBook (h₁ .0 .architecture) book) _ (h₁ .2) in
+    let read : readSheet sheet ≡ proper s = h₁ .1 ∙ ap (λ (x : Chosen). proper (x .sheet)) (same-proper _ (a .chosen) (h₂ .2)) in
+    rw (reading-is (r .answer) (r .sheet) s (q ∙ read)) record {
+      is = read;
+      counted = λ n l. l ∙ sym (annotation-whole s c) ∙ ap length (sym (taken s c n l)) ∙ ap (λ (x : List ℕ). length (take n x)) (sym (a .left-is));
+      file = λ n l. ap (λ (x : List ℕ). bytesOf (take n x)) (a .left-is) ∙ ap bytesOf (taken s c n l) ∙ ap chosenFile (sym (a .is));
+    }

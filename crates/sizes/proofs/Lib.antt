@@ -1,0 +1,4 @@
+-- what the programs that read books and annotations cite
+pub mod BookFront
+pub mod AnnotationWhole
+pub mod SheetRead
