@@ -20,7 +20,7 @@ use Rattle.model.specs.Choice.{IsChoice}
 use Rattle.model.specs.RunGraph.{vertices, blank}
 use Rattle.model.specs.Computed.{runGraph, valid}
 use Rattle.model.specs.Book.{readBook}
-use Rattle.model.specs.Calls.{Chosen, annotationShort, roomFor, bookFor, bookAndRoom, judged, judgeOf}
+use Rattle.model.specs.Calls.{annotationShort, roomFor, bookFor, bookAndRoom, judged, judgeOf}
 use Rattle.model.proofs.Prefix.{read-prefix}
 use Rattle.model.proofs.ProperSheet.{sheet-proper}
 use Rattle.model.proofs.BookRead.{read-choice}

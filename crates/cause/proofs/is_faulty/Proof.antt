@@ -1,5 +1,4 @@
 -- `cause::is_faulty` meets its contract: the number of a refusal tells.
-use mathlib.Core.Path.{_≡_}
 use borrow.Author.Needs.{needs}
 use Rattle.cause.specs.Fault.{faulty}
 use Rattle.cause.proofs.is_faulty.Statement.{statement}

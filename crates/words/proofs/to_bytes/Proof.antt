@@ -5,7 +5,7 @@ use native.Mathlib.Omega.{arith}
 use lib.ListN.{length, take, length-take}
 use lib.Seq.{take-length}
 use Rattle.append.specs.Appends.{Appends}
-use Rattle.append.proofs.Appended.{append-none, append-more, append-length}
+use Rattle.append.proofs.Appended.{append-none, append-more}
 use Rattle.words.specs.Words.{bytesOf}
 use Rattle.words.proofs.WordLaws.{bytes-count, bytes-next}
 use Rattle.words.proofs.to_bytes.Statement.{statement}
