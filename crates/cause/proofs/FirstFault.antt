@@ -6,14 +6,14 @@ use mathlib.Core.List.{List, [], _++_, append-nil}
 use Prim.Native.Nat.{ℕ, _≤_, _<_}
 use native.Mathlib.Omega.{arith}
 use native.Mathlib.Decide.{decLt}
-use lib.ListN.{length, take, drop, length-append, length-take, take-append-drop, List·getD-eq-default}
-use lib.Seq.{take-all, take-at, take-take, getD-take}
+use lib.ListN.{length, take, drop, length-append, length-take, take-append-drop}
+use lib.Seq.{take-all, take-at, take-take}
 use Rattle.model.specs.declared.Refusal.{Refusal}
 use Rattle.model.specs.declared.Refusal.the-variants.{SheetTooShort}
 use Rattle.model.specs.declared.Reply.{Reply}
-use Rattle.model.specs.Reading.{byte}
 use Rattle.model.specs.SheetFile.{Bytes, Faulty, BeginsFaulty}
 use Rattle.model.specs.Calls.{checkOf}
+use Rattle.model.proofs.Damage.{bytes-take}
 use Rattle.model.proofs.DemandOne.{first-demand}
 use Rattle.cause.specs.Fault.{faulty, FaultEnds}
 
@@ -31,14 +31,6 @@ pub first-fault : (sheet : List ℕ) (r : Refusal) (n : ℕ) → Bytes sheet →
 unfolding faulty
 first-fault sheet r n bytes t e f = by (checkOf (take n sheet)) refl (is-faulty (decLt n (length sheet)))
   where
-    -- the first bytes of a file are bytes
-    front : Bytes (take n sheet)
-    front i = at (decLt i n)
-      where
-        at : Dec (i < n) → byte (take n sheet) i < 256
-        at (yes h) = rw (getD-take n sheet i 0 h) (bytes i)
-        at (no h) = rw (List·getD-eq-default (take n sheet) 0 {n = i} (omega (arith, length-take n sheet))) (omega arith)
-
     -- the front is faulty: all of the sheet is, where it is not shorter
     is-faulty : Dec (n < length sheet) → faulty (checkOf (take n sheet)) ≡ true
     is-faulty (yes h) = f .ends h
@@ -68,7 +60,7 @@ first-fault sheet r n bytes t e f = by (checkOf (take n sheet)) refl (is-faulty 
     by Reply.Done e′ t′ = absurd (true≢false (sym t′ ∙ ap faulty e′))
     by (Reply.Refused r′) e′ t′ =
         let u : faulty (Reply.Refused r′) ≡ true = sym (ap faulty e′) ∙ t′ in
-        let b : BeginsFaulty (take n sheet) r′ = first-demand .fault-exactly (take n sheet) r′ front (other r′ u) .0 e′ in
+        let b : BeginsFaulty (take n sheet) r′ = first-demand .fault-exactly (take n sheet) r′ (bytes-take sheet n bytes) (other r′ u) .0 e′ in
         let is : Faulty (take n sheet) r′ = subst (λ (l : List ℕ). Faulty l r′) (all r′ e′ u b) (b .fault) in
         let same : Reply.Refused r′ ≡ Reply.Refused r = sym e′ ∙ sym (begun (take n sheet) (drop n sheet) r′ is) ∙ ap checkOf (take-append-drop n sheet) ∙ e in
         let q : r′ ≡ r = cc in

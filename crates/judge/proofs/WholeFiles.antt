@@ -8,8 +8,6 @@ use native.Mathlib.Omega.{arith}
 use lib.ListN.{length, getD, take, length-take}
 use lib.Seq.{getD-take}
 use borrow.Author.Tests.{ltb-true, lt-ltb}
-use Rattle.theory.specs.Graph.{Graph, Finite, Valid}
-use Rattle.theory.proofs.ValidLaws.{valid-right}
 use Rattle.model.specs.declared.Refusal.the-variants.{AnnotationBufferTooShort}
 use Rattle.model.specs.declared.Finding.the-variants.{Yes, No}
 use Rattle.model.specs.declared.Verdict.{Verdict}
@@ -18,13 +16,14 @@ use Rattle.model.specs.Sheet.{Sheet, ProperSheet}
 use Rattle.model.specs.Reading.{Reading, refused, proper, refuse_when_else_, _then_, readSheet}
 use Rattle.model.specs.Choice.{IsChoice}
 use Rattle.model.specs.RunGraph.{vertices, blank}
-use Rattle.model.specs.Computed.{runGraph, valid}
+use Rattle.model.specs.Computed.{valid}
 use Rattle.model.specs.Book.{readBook}
 use Rattle.model.specs.Calls.{annotationShort, roomFor, bookFor, bookAndRoom, judged, judgeOf}
 use Rattle.model.proofs.Prefix.{read-prefix}
 use Rattle.model.proofs.ProperSheet.{sheet-proper}
 use Rattle.model.proofs.BookRead.{read-choice}
-use Rattle.model.proofs.RunGraphSteps.{graph-finite}
+use Rattle.model.proofs.ComputedTests.{valid-exactly}
+use Rattle.model.proofs.AnnotationPasses.{same-valid}
 use Rattle.graph.proofs.TablesOfChoice.{vertices-few}
 use Rattle.sizes.proofs.BookFront.{book-front}
 use Rattle.words.specs.Words.{wordsOf}
@@ -32,14 +31,6 @@ use Rattle.words.proofs.WordLaws.{words-front}
 use Rattle.judge.specs.Printed.{verdictText, printed}
 
 -- ---- the annotation
--- numbers that agree on the vertices are valid alike
-agreeing-valid : {g : Graph} {none : ℕ} (f h : ℕ → ℕ) → Finite g → ((v : ℕ) → v < g .size → f v ≡ h v) → Valid g none f → Valid g none h
-agreeing-valid f h fin same ok = record {
-  starts = λ e. ok .starts (same _ (fin .starts) ∙ e);
-  spreads = λ {v} {w} l n p e. ok .spreads l (λ q. n (sym (same v l) ∙ q)) p (same w (fin .stays l p) ∙ e);
-  rises = λ {v} {w} l n p. omega (arith, ok .rises l (λ q. n (sym (same v l) ∙ q)) p, same v l, same w (fin .stays l p));
-}
-
 -- two tests that pass together
 both : (t u : Bool) → (t ≡ true → u ≡ true) → (u ≡ true → t ≡ true) → t ≡ u
 both true u f g = sym (f refl)
@@ -51,14 +42,11 @@ module _ (s : Sheet) (c ann : List ℕ) (good : ProperSheet s) (choice : IsChoic
   same v h = getD-take 4096 ann v blank (omega (arith, vertices-few s good))
 
   valid-front : valid s c (take 4096 ann) ≡ valid s c ann
-  unfolding valid runGraph
   valid-front =
-      let g = runGraph s c in
-      let fin = graph-finite s c good choice in
-      let right : (num : ℕ → ℕ) → _ = valid-right g blank in
+      let right = valid-exactly s c good choice in
       both _ _
-      (λ e. right _ .1 (agreeing-valid _ (λ v. getD ann v blank) fin same (right _ .0 e)))
-      (λ e. right _ .1 (agreeing-valid _ (λ v. getD (take 4096 ann) v blank) fin (λ v h. sym (same v h)) (right _ .0 e)))
+      (λ e. right ann .1 (same-valid s c good choice (λ v. getD (take 4096 ann) v blank) (λ v. getD ann v blank) same (right (take 4096 ann) .0 e)))
+      (λ e. right (take 4096 ann) .1 (same-valid s c good choice (λ v. getD ann v blank) (λ v. getD (take 4096 ann) v blank) (λ v h. sym (same v h)) (right ann .0 e)))
 
   short-front : annotationShort s (take 4096 ann) ≡ annotationShort s ann
   unfolding annotationShort

@@ -21,7 +21,7 @@ use Rattle.model.proofs.ComputedTests.{loop-to, loop-from, valid-to, va
 use Rattle.model.proofs.AnnotationExact.{below-blank, annotates}
 
 -- ---- only the numbers of the vertices count
-same-valid : (s : Sheet) (c : List ℕ) → ProperSheet s → IsChoice (s .architecture) c → (f g : ℕ → ℕ) → ((v : ℕ) → v < vertices s → f v ≡ g v) → Valid s c f → Valid s c g
+pub same-valid : (s : Sheet) (c : List ℕ) → ProperSheet s → IsChoice (s .architecture) c → (f g : ℕ → ℕ) → ((v : ℕ) → v < vertices s → f v ≡ g v) → Valid s c f → Valid s c g
 same-valid s c good choice f g same h = record {
   starts = λ e. h .starts (same _ (start-lt s c good) ∙ e);
   spreads = λ {v} {w} l n p e. h .spreads l (λ q. n (sym (same v l) ∙ q)) p (same w (step-lt s c good choice v w p) ∙ e);

@@ -26,7 +26,7 @@ more-refused b s x rest bytes e =
 
 -- ---- less
 -- the first bytes of a file are bytes
-bytes-take : (b : List ℕ) (n : ℕ) → Bytes b → Bytes (take n b)
+pub bytes-take : (b : List ℕ) (n : ℕ) → Bytes b → Bytes (take n b)
 bytes-take b n bytes i = by (decLe n i)
   where
     by : Dec (n ≤ i) → byte (take n b) i < 256
