@@ -1,0 +1,2 @@
+-- the laws that the proofs of the functions cite
+pub mod DrawnInTurn
