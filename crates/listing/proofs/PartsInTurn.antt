@@ -60,7 +60,7 @@ module _ (f t : List AutomatonState) (p q : List ℕ) where
       (last? j n h)
 
   -- from j on, and from j + 1 on
-  pub edge-next : (n j : ℕ) → j < n → drop j (edgesOf n f t p q) ≡ edgeAt f t p q j ∷ drop (j + 1) (edgesOf n f t p q)
+  edge-next : (n j : ℕ) → j < n → drop j (edgesOf n f t p q) ≡ edgeAt f t p q j ∷ drop (j + 1) (edgesOf n f t p q)
   edge-next n j h =
       let es = edgesOf n f t p q in
       let d = edgeAt f t p q j in

@@ -21,7 +21,7 @@ use text::put_line;
 
 // ---- parts of lines: each function that puts something answers the index behind it
 // A word and a number.
-pub fn put_number(text: &mut [u8], at: usize, word: &[u8], n: usize) -> usize
+fn put_number(text: &mut [u8], at: usize, word: &[u8], n: usize) -> usize
     requires { ⌜ at + length (spec.numberText (now word) n) ≤ length (now text) ⌝ }
     ensures { λ r. ⌜ Appends (now (text .entry)) at (spec.numberText (now (word .entry)) n) r (now (text .exit)) ⌝ }
 {

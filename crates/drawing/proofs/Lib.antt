@@ -1,2 +1,0 @@
--- the laws that the proofs of the functions cite
-pub mod DrawnInTurn
