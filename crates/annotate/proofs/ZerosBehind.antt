@@ -5,9 +5,11 @@ use Prim.Native.Nat.{ℕ, zero, suc, max}
 use native.Mathlib.Omega.{arith}
 use lib.ListN.{length, drop, replicate}
 use Rattle.theory.specs.Lists.{greatest}
+use Rattle.model.specs.Ascii.{ascii}
 use Rattle.model.specs.Mask.{if}
 use Rattle.model.specs.Calls.{front}
-use Rattle.text.specs.Text.{line, greatestWord, unblank, greatestText}
+use Rattle.template.specs.Template.{filled}
+use Rattle.text.specs.Text.{unblank, greatestText}
 use Rattle.annotate.specs.Printed.{annotation₀}
 
 greatest-append : (xs ys : List ℕ) → greatest unblank (xs ++ ys) ≡ max (greatest unblank xs) (greatest unblank ys)
@@ -23,8 +25,8 @@ greatest-zeros zero (suc m) = omega (arith, greatest-zeros zero m)
 greatest-zeros (suc n) (suc m) = greatest-zeros n m
 
 pub text-front : (a : List ℕ) → greatestText (front a annotation₀) ≡ greatestText a
-unfolding greatestText front
+unfolding front
 text-front a =
     let zeros = drop (length a) annotation₀ in
     let e : greatest unblank (a ++ zeros) ≡ greatest unblank a = omega (arith, greatest-append a zeros, greatest-zeros (length a) 4096) in
-    ap (line greatestWord) e
+    ap (λ (n : ℕ). filled (ascii "greatest #\n") (n ∷ [])) e

@@ -1,10 +1,12 @@
 // Annotates the book in a file: prints `greatest` and the greatest number of the annotation, `loop`, or `refused` and the number, with the cause on
 // standard error. With a third name it writes the annotation to that file, in words of two bytes, the low byte first.
 ghost use mathlib.Core.Path.{_≡_};
+ghost use Prim.Native.Nat.{_≤_};
+ghost use lib.ListN.{length};
 ghost use Rattle.model.specs.declared.Finding.the-variants.{Yes};
 ghost use Rattle.model.specs.declared.Verdict.{Verdict as Answer};
 ghost use Rattle.model.specs.Calls.{annotateOf};
-ghost use Rattle.text.specs.Holds.{Holds};
+ghost use Rattle.template.specs.Holds.{Holds};
 ghost use Rattle.annotate.specs.Printed.{chosenIn, chosenFile, printed, annotation₀, left};
 use libc::STDOUT_FILENO;
 use model::Finding;
@@ -18,12 +20,13 @@ const BOOK_ROOM: usize = 339;
 
 // The text of what annotate answered, at the front of the buffer: answers its length. The zeros behind the annotation are never the greatest.
 fn verdict_text(
-    text: &mut [u8; 1024],
+    text: &mut [u8],
     sheet: &[u8],
     book: &[u8],
     verdict: Verdict,
     annotation: &[u16],
 ) -> usize
+    requires { ⌜ 32 ≤ length (now text) ⌝ }
     requires { ⌜ annotateOf (now sheet) (now book) annotation₀ ≡ left verdict (now annotation) ⌝ }
     ensures { λ r. ⌜ Holds (now (text .exit)) r (printed (now (sheet .entry)) (now (book .entry))) ⌝ }
 {
@@ -31,7 +34,7 @@ fn verdict_text(
         Verdict::Refused(refusal) => text::refused_text(text, refusal),
         Verdict::Found(finding) => match finding {
             Finding::Yes => text::greatest_text(text, annotation),
-            Finding::No => text::loop_text(text),
+            Finding::No => text::answer_text(text, b"loop\n"),
         },
     }
 }
@@ -69,7 +72,7 @@ fn save_annotation(sheet: &[u8], book: &[u8], annotation: &[u16])
 fn answer(sheet: &[u8], book: &[u8]) {
     let mut annotation = [0u16; 4096];
     let verdict = planner::annotate(sheet, book, &mut annotation);
-    let mut text = [0u8; 1024];
+    let mut text = [0u8; 32];
     let end = verdict_text(&mut text, sheet, book, verdict, &annotation);
     put_out(sheet, book, &text[..end]);
     match verdict {

@@ -20,6 +20,10 @@ append-one l at v h = record {
   behind = drop-set-lt (at + 1) l at v (omega arith);
 }
 
+-- where there is room for two lists, there is for the first
+pub room-front : (at n : ℕ) (xs ys : List ℕ) → at + length (xs ++ ys) ≤ n → at + length xs ≤ n
+room-front at n xs ys h = omega (arith, length-append xs ys)
+
 module _ {l m xs : List ℕ} {at end : ℕ} (p : Appends l at xs end m) where
   -- one list behind another
   pub append-more : {n ys : List ℕ} {after : ℕ} → Appends m end ys after n → Appends l at (xs ++ ys) after n
@@ -38,6 +42,12 @@ module _ {l m xs : List ℕ} {at end : ℕ} (p : Appends l at xs end m) where
   append-length h =
       let parts : length (take end m ++ drop end m) ≡ length ((take at l ++ xs) ++ drop end l) = ap₂ (λ (a b : List ℕ). length (a ++ b)) (p .is) (p .behind) in
       ap length (sym (take-append-drop end m)) ∙ parts ∙ simp (length-append, length-take, length-drop) (omega (arith, p .ends))
+
+  -- where there is room for both, there is for the second behind the first
+  pub append-room : (ys : List ℕ) → at + length (xs ++ ys) ≤ length l → end + length ys ≤ length m
+  append-room ys h =
+      let both = length-append xs ys in
+      omega (arith, p .ends, both, append-length (omega (arith, p .ends, both)))
 
   -- the whole list
   append-whole : m ≡ take at l ++ xs ++ drop end l

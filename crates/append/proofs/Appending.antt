@@ -17,6 +17,10 @@ pub record Appending (old : List ℕ) (start : ℕ) (all : List ℕ) (at : ℕ) 
 pub record Opens (due new rest : List ℕ) : Type 0 where
   pub is : due ≡ new ++ rest
 
+-- what is due is the last part
+pub opens-last : (due : List ℕ) → Opens due due []
+opens-last due = record { is = sym (append-nil due) }
+
 -- before the first turn
 pub appending-none : (l : List ℕ) (at : ℕ) (all : List ℕ) → Appending l at all at l all
 appending-none l at all = record { done = []; so-far = append-none l at; whole = refl }

@@ -1,15 +1,15 @@
--- The edges of four arrays: a store behind those that count leaves them as they are, and each of a proper automaton's is a proper edge.
-use mathlib.Core.Path.{_≡_, refl, ap}
+-- The edges of four arrays, one at a time; a store behind those that count leaves them as they are, and each of a proper automaton's is a proper edge.
+use mathlib.Core.Path.{_≡_, refl, sym, ap, _∙_}
 use mathlib.Core.List.{List, [], _∷_, _++_, List·Memᴰ, List·Memᴰ·head, Memᴰ·append-left, Memᴰ·append-right}
 use Prim.Native.Nat.{ℕ, zero, suc, _+_, _<_, _≤_}
 use native.Mathlib.Numerals.{add-one}
 use native.Mathlib.Nat.{le-refl}
 use native.Mathlib.Omega.{arith}
 use native.Mathlib.Decide.{ℕ-discrete}
-use lib.ListN.{length, set, length-append}
-use lib.Seq.{getD-set-same, getD-set-other}
+use lib.ListN.{length, getD, drop, set, length-append, List·getD-append}
+use lib.Seq.{drop-cons, getD-at, getD-set-same, getD-set-other}
 use Rattle.model.specs.declared.AutomatonState.{AutomatonState}
-use Rattle.model.specs.Sheet.{ProperEdge}
+use Rattle.model.specs.Sheet.{Edge, ProperEdge}
 use Rattle.automaton.specs.declared.Automaton.{Automaton}
 use Rattle.automaton.specs.Struct.{edgeAt, edgesOf, edgeIn, automatonOf, IsProper}
 
@@ -17,6 +17,25 @@ pub edges-length : (n : ℕ) (f t : List AutomatonState) (p q : List ℕ) → le
 unfolding edgesOf
 edges-length zero f t p q = refl
 edges-length (suc n) f t p q = simp length-append (omega (arith, edges-length n f t p q))
+
+-- ---- one at a time
+module _ (f t : List AutomatonState) (p q : List ℕ) where
+  -- edge j of the list is that of entry j
+  edges-at : (n j : ℕ) (d : Edge) → j < n → getD (edgesOf n f t p q) j d ≡ edgeAt f t p q j
+  unfolding edgesOf
+  edges-at zero j d h = absurd (omega arith)
+  edges-at (suc n) j d h = by (ℕ-discrete j n) (λ l. edges-at n j d l)
+    where
+      by : Dec (j ≡ n) → (j < n → getD (edgesOf n f t p q) j d ≡ edgeAt f t p q j) → getD (edgesOf n f t p q ++ (edgeAt f t p q n ∷ [])) j d ≡ edgeAt f t p q j
+      by (yes e) r = getD-at (edgesOf n f t p q) (edgeAt f t p q n) [] d j (edges-length n f t p q ∙ sym e) ∙ ap (edgeAt f t p q) (sym e)
+      by (no l) r = List·getD-append (edgesOf n f t p q) (edgeAt f t p q n ∷ []) d j (omega (arith, edges-length n f t p q)) ∙ r (omega arith)
+
+  -- from j on, and from j + 1 on
+  pub edge-next : (n j : ℕ) → j < n → drop j (edgesOf n f t p q) ≡ edgeAt f t p q j ∷ drop (j + 1) (edgesOf n f t p q)
+  edge-next n j h =
+      let es = edgesOf n f t p q in
+      let d = edgeAt f t p q j in
+      rw (add-one j) (drop-cons es j d (omega (arith, edges-length n f t p q)) ∙ ap (λ (e : Edge). e ∷ drop (suc j) es) (edges-at n j d h))
 
 -- ---- a store at n leaves the entries before it
 module _ (n : ℕ) (f t : List AutomatonState) (p q : List ℕ) (x y : AutomatonState) (z w : ℕ) where

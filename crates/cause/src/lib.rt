@@ -97,3 +97,12 @@ pub fn explain_sheet(sheet: &[u8]) {
         explain(refusal, sheet);
     }
 }
+
+// The line for a sheet or a book that is refused; none for proper ones.
+pub fn explain_book(sheet: &[u8], book: &[u8]) {
+    let reading = planner::read(sheet, book);
+    let answer = reading.answer;
+    if let Reply::Refused(refusal) = answer {
+        explain(refusal, sheet);
+    }
+}

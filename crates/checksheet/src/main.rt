@@ -1,6 +1,8 @@
 // Checks the sheet in a file or on standard input: prints `proper`, or `refused` and the number, with the cause on standard error.
 ghost use mathlib.Core.Path.{_≡_};
-ghost use Rattle.text.specs.Holds.{Holds};
+ghost use Prim.Native.Nat.{_≤_};
+ghost use lib.ListN.{length};
+ghost use Rattle.template.specs.Holds.{Holds};
 ghost use Rattle.checksheet.specs.Printed.{replyText, printed};
 use libc::STDOUT_FILENO;
 use model::Reply;
@@ -9,12 +11,13 @@ use model::Reply;
 const ROOM: usize = 418;
 
 // The text of a reply, at the front of the buffer: answers its length.
-fn reply_text(text: &mut [u8; 1024], reply: Reply) -> usize
+fn reply_text(text: &mut [u8], reply: Reply) -> usize
+    requires { ⌜ 32 ≤ length (now text) ⌝ }
     ensures { λ r. ⌜ Holds (now (text .exit)) r (replyText reply) ⌝ }
 {
     match reply {
         Reply::Refused(refusal) => text::refused_text(text, refusal),
-        Reply::Done => text::proper_text(text),
+        Reply::Done => text::answer_text(text, b"proper\n"),
     }
 }
 
@@ -28,7 +31,7 @@ fn put_out(sheet: &[u8], text: &[u8])
 // The answer for the bytes of a sheet file, and the cause of a refusal.
 fn answer(sheet: &[u8]) {
     let reply = planner::check(sheet);
-    let mut text = [0u8; 1024];
+    let mut text = [0u8; 32];
     let end = reply_text(&mut text, reply);
     put_out(sheet, &text[..end]);
     if let Reply::Refused(refusal) = reply {

@@ -8,7 +8,9 @@ use Rattle.arbiter.proofs.FirstChoice.{first-is-A}
 use Rattle.theory.specs.Lists.{greatest}
 use Rattle.model.specs.Mask.{if}
 use Rattle.model.specs.Compose.{rowLength, processLength, rowAt}
-use Rattle.text.specs.Text.{digit, decimalIn, decimal, hex, line, field, fields, rowText, rowsText, tablesText, rowCount, unblank, textOf}
+use Rattle.template.specs.Template.{digit, decimalIn, decimal, hex, part, taken, filled}
+use Rattle.text.specs.Rows.{eachFrom, eachProcess}
+use Rattle.text.specs.Text.{fields, rowText, rowCount, unblank, textOf}
 use Rattle.find.specs.Printed.{choiceText, sheetText, printed}
 
 -- the sheet is the arbiter's
@@ -18,7 +20,7 @@ reads-A = refl
 
 -- its text, with the annotation that is computed for the choice
 text-A : textOf (arbiter .architecture) choiceA (annotation arbiter choiceA) ≡ textA
-unfolding annotation arbiter greatest if rowLength processLength rowAt digit decimalIn decimal hex line field fields rowText rowsText tablesText rowCount unblank textOf
+unfolding annotation arbiter greatest if rowLength processLength rowAt digit decimalIn decimal hex part taken filled eachFrom eachProcess fields rowText rowCount unblank textOf
 text-A = refl
 
 pub printed-A : printed (sheetA 2) ≡ textA

@@ -1,10 +1,12 @@
 // Finds tables for the sheet in a file or on standard input: prints them with the greatest number of their annotation, `none`, or `refused` and the
 // number, with the cause on standard error. With two more names it writes the book and the annotation to these files.
 ghost use mathlib.Core.Path.{_≡_};
+ghost use Prim.Native.Nat.{_≤_};
+ghost use lib.ListN.{length};
 ghost use Rattle.model.specs.Computed.{firstChoice};
 ghost use Rattle.model.specs.Calls.{findChoice, findOf};
 ghost use Rattle.sheet.specs.Struct.{sheetOf, IsProper};
-ghost use Rattle.text.specs.Holds.{Holds};
+ghost use Rattle.template.specs.Holds.{Holds};
 ghost use Rattle.find.specs.Printed.{choiceText, printed, bookFile, annotationFile, left, found, book₀, annotation₀};
 use libc::STDOUT_FILENO;
 use model::Outcome;
@@ -14,7 +16,8 @@ use sheet::Sheet;
 const ROOM: usize = 418;
 
 // Of a proper sheet: the text of the tables that find put into the book.
-fn choice_text(text: &mut [u8; 1024], sheet: Sheet, book: &[u8], annotation: &[u16]) -> usize
+fn choice_text(text: &mut [u8], sheet: Sheet, book: &[u8], annotation: &[u16]) -> usize
+    requires { ⌜ 2048 ≤ length (now text) ⌝ }
     requires { ⌜ IsProper sheet ⌝ }
     requires { ⌜ findChoice (sheetOf sheet) (firstChoice (sheetOf sheet)) book₀ annotation₀ ≡ found (now book) (now annotation) ⌝ }
     ensures { λ r. ⌜ Holds (now (text .exit)) r (choiceText (sheetOf sheet) (firstChoice (sheetOf sheet))) ⌝ }
@@ -28,7 +31,8 @@ fn choice_text(text: &mut [u8; 1024], sheet: Sheet, book: &[u8], annotation: &[u
 }
 
 // The text of the tables that find put into the book.
-fn found_text(text: &mut [u8; 1024], sheet: &[u8], book: &[u8], annotation: &[u16]) -> usize
+fn found_text(text: &mut [u8], sheet: &[u8], book: &[u8], annotation: &[u16]) -> usize
+    requires { ⌜ 2048 ≤ length (now text) ⌝ }
     requires { ⌜ findOf (now sheet) book₀ annotation₀ ≡ found (now book) (now annotation) ⌝ }
     ensures { λ r. ⌜ Holds (now (text .exit)) r (printed (now (sheet .entry))) ⌝ }
 {
@@ -39,18 +43,19 @@ fn found_text(text: &mut [u8; 1024], sheet: &[u8], book: &[u8], annotation: &[u1
 
 // The text of what find answered, at the front of the buffer: answers its length.
 fn outcome_text(
-    text: &mut [u8; 1024],
+    text: &mut [u8],
     sheet: &[u8],
     outcome: Outcome,
     book: &[u8],
     annotation: &[u16],
 ) -> usize
+    requires { ⌜ 2048 ≤ length (now text) ⌝ }
     requires { ⌜ findOf (now sheet) book₀ annotation₀ ≡ left outcome (now book) (now annotation) ⌝ }
     ensures { λ r. ⌜ Holds (now (text .exit)) r (printed (now (sheet .entry))) ⌝ }
 {
     match outcome {
         Outcome::Refused(refusal) => text::refused_text(text, refusal),
-        Outcome::Nothing => text::none_text(text),
+        Outcome::Nothing => text::answer_text(text, b"none\n"),
         Outcome::Tables => found_text(text, sheet, book, annotation),
     }
 }
@@ -108,7 +113,7 @@ fn answer(sheet: &[u8]) {
     let mut book = [0u8; 338];
     let mut annotation = [0u16; 4096];
     let outcome = planner::find(sheet, &mut book, &mut annotation);
-    let mut text = [0u8; 1024];
+    let mut text = [0u8; 2048];
     let end = outcome_text(&mut text, sheet, outcome, &book, &annotation);
     put_out(sheet, &text[..end]);
     match outcome {

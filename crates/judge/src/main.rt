@@ -4,7 +4,7 @@ ghost use Prim.Native.Nat.{_≤_};
 ghost use lib.ListN.{length};
 ghost use Rattle.model.specs.Calls.{judgeOf};
 ghost use Rattle.words.specs.Words.{wordsOf};
-ghost use Rattle.text.specs.Holds.{Holds};
+ghost use Rattle.template.specs.Holds.{Holds};
 ghost use Rattle.judge.specs.Printed.{verdictText, printed};
 use libc::STDOUT_FILENO;
 use model::Finding;
@@ -30,14 +30,15 @@ fn judge_files(sheet: &[u8], book: &[u8], annotation: &[u8]) -> Verdict
 }
 
 // The text of a verdict, at the front of the buffer: answers its length.
-fn verdict_text(text: &mut [u8; 1024], verdict: Verdict) -> usize
+fn verdict_text(text: &mut [u8], verdict: Verdict) -> usize
+    requires { ⌜ 32 ≤ length (now text) ⌝ }
     ensures { λ r. ⌜ Holds (now (text .exit)) r (verdictText verdict) ⌝ }
 {
     match verdict {
         Verdict::Refused(refusal) => text::refused_text(text, refusal),
         Verdict::Found(finding) => match finding {
-            Finding::Yes => text::yes_text(text),
-            Finding::No => text::no_text(text),
+            Finding::Yes => text::answer_text(text, b"yes\n"),
+            Finding::No => text::answer_text(text, b"no\n"),
         },
     }
 }
@@ -54,7 +55,7 @@ fn answer(sheet: &[u8], book: &[u8], annotation: &[u8])
     requires { ⌜ length (now annotation) ≤ 8192 ⌝ }
 {
     let verdict = judge_files(sheet, book, annotation);
-    let mut text = [0u8; 1024];
+    let mut text = [0u8; 32];
     let end = verdict_text(&mut text, verdict);
     put_out(sheet, book, annotation, &text[..end]);
     if let Verdict::Refused(refusal) = verdict {

@@ -1,7 +1,5 @@
--- the laws that the proofs of the functions cite; what is printed for case A, and that the number of choices shown is theirs
-pub mod WholeText
-pub mod PartsInTurn
+-- the laws that the proofs of the functions cite, what is shown of case A, and that the number of choices is that of the choices
 pub mod Exponents
 pub mod ListingShort
-pub mod CaseA
 pub mod ChoicesCounted
+pub mod CaseA

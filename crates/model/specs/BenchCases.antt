@@ -2,6 +2,7 @@
 use mathlib.Core.List.{List, [], _∷_, _++_}
 use Prim.Native.Nat.{ℕ}
 use lib.ListN.{replicate}
+use Rattle.model.specs.Ascii.{ascii}
 use Rattle.model.specs.Sheet.{Process, Edge, Sheet}
 use Rattle.model.specs.SheetFile.{sheetBytes}
 use Rattle.model.specs.RunGraph.{blank}
@@ -44,13 +45,9 @@ bookA = 0x54 ∷ 0x42 ∷ 0x00 ∷ 0x00 ∷ 0x04 ∷ 0x01 ∷ 0x01 ∷ 0x01 ∷ 
 abbrev pub annotationA : List ℕ
 annotationA = replicate 8 0 ++ replicate 4 2 ++ replicate 4 1 ++ replicate 4 1 ++ replicate 4 2 ++ replicate 8 blank
 
--- what the finding program prints for A: its four lines in ASCII, each with its line feed
+-- what the finding program prints for A
 abbrev pub textA : List ℕ
-textA =
-    0x74 ∷ 0x61 ∷ 0x62 ∷ 0x6C ∷ 0x65 ∷ 0x73 ∷ 0x20 ∷ 0x32 ∷ 0x0A
-    ∷ 0x30 ∷ 0x20 ∷ 0x30 ∷ 0x20 ∷ 0x30 ∷ 0x34 ∷ 0x20 ∷ 0x31 ∷ 0x20 ∷ 0x31 ∷ 0x20 ∷ 0x31 ∷ 0x20 ∷ 0x31 ∷ 0x0A
-    ∷ 0x30 ∷ 0x20 ∷ 0x31 ∷ 0x20 ∷ 0x30 ∷ 0x38 ∷ 0x20 ∷ 0x30 ∷ 0x20 ∷ 0x30 ∷ 0x20 ∷ 0x30 ∷ 0x20 ∷ 0x30 ∷ 0x0A
-    ∷ 0x67 ∷ 0x72 ∷ 0x65 ∷ 0x61 ∷ 0x74 ∷ 0x65 ∷ 0x73 ∷ 0x74 ∷ 0x20 ∷ 0x32 ∷ 0x0A ∷ []
+textA = ascii "tables 2\n0 0 04 1 1 1 1\n0 1 08 0 0 0 0\ngreatest 2\n"
 
 -- D's book: each process grants in one of its two states, and they take turns
 abbrev pub bookD : List ℕ

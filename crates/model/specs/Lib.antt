@@ -1,3 +1,4 @@
+pub mod Ascii
 pub mod Mask
 pub mod Sheet
 pub mod Reading

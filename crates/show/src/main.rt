@@ -1,32 +1,25 @@
 // Shows what a sheet says, a line for each record and then the counts, or `refused` and the number.
 // The sheet is in the file that its first argument names, or on standard input without one or with `-`.
 ghost use mathlib.Core.Path.{_≡_};
-ghost use Rattle.model.specs.Numbers.{number};
-ghost use Rattle.text.specs.Text.{refusedText};
-ghost use Rattle.listing.specs.Holds.{Holds};
+ghost use Prim.Native.Nat.{_≤_};
+ghost use lib.ListN.{length};
+ghost use Rattle.template.specs.Holds.{Holds};
 ghost use Rattle.show.specs.Shown.{shown};
 use libc::STDOUT_FILENO;
-use model::Refusal;
 use model::Reply;
 
 // One byte more than the longest proper sheet, so that a byte after EN is seen.
 const ROOM: usize = 418;
 
-// `refused` and the number, at the front of the buffer: answers its length.
-fn refused_text(text: &mut [u8; 8192], refusal: Refusal) -> usize
-    ensures { λ r. ⌜ Holds 8192 (now (text .exit)) r (refusedText (number refusal)) ⌝ }
-{
-    text::put_line(text, 0, b"refused ", refusal.number() as usize)
-}
-
 // The text for the bytes of a sheet file, at the front of the buffer: answers its length.
-fn answer_text(text: &mut [u8; 8192], sheet: &[u8]) -> usize
-    ensures { λ r. ⌜ Holds 8192 (now (text .exit)) r (shown (now (sheet .entry))) ⌝ }
+fn answer_text(text: &mut [u8], sheet: &[u8]) -> usize
+    requires { ⌜ 8192 ≤ length (now text) ⌝ }
+    ensures { λ r. ⌜ Holds (now (text .exit)) r (shown (now (sheet .entry))) ⌝ }
 {
     let reading = sheet::read(sheet);
     let answer = reading.answer;
     match answer {
-        Reply::Refused(refusal) => refused_text(text, refusal),
+        Reply::Refused(refusal) => text::refused_text(text, refusal),
         Reply::Done => {
             let read = reading.sheet;
             listing::sheet_text(text, read)

@@ -1,6 +1,6 @@
 -- the laws that the proofs of the functions cite
-pub mod WholeText
-pub mod DecimalLaws
 pub mod RowTexts
+pub mod RowsShort
+pub mod GreatestNumber
 pub mod TextShort
 pub mod TextReads

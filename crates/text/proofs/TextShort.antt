@@ -1,105 +1,79 @@
--- How long the text is at most.
-use mathlib.Core.Path.{_≡_, refl, ap, _∙_}
-use mathlib.Core.Bool.{true}
+-- How long the text of a found choice is at most.
+use mathlib.Core.Path.{_≡_, refl, ap}
 use mathlib.Core.List.{List, [], _∷_, _++_, List·Memᴰ·head, List·Memᴰ·tail}
-use Prim.Native.Nat.{ℕ, zero, suc, _+_, _*_, _^_, _<_, _≤_}
-use native.Mathlib.Numerals.{one-add}
+use Prim.Native.Nat.{ℕ, zero, suc, _+_, _*_, _<_, _≤_}
 use native.Mathlib.Omega.{arith}
-use lib.Pow.{pow-mono}
-use lib.ListN.{length, take, drop, replicate, length-append}
-use lib.Seq.{drop-drop}
-use borrow.Author.Tests.{ltb-true}
+use lib.ListN.{length, getD, take, drop, length-append, length-take, length-drop}
+use lib.Seq.{getD-drop}
 use Rattle.theory.specs.Lists.{greatest}
-use Rattle.theory.proofs.Bools.{and-is}
-use Rattle.model.specs.Mask.{count}
+use Rattle.model.specs.Ascii.{ascii}
 use Rattle.model.specs.Sheet.{Process, Architecture, ProperProcess, ProperProcesses, ProperArchitecture}
-use Rattle.model.specs.Compose.{rowLength, rowAt, processLength}
-use Rattle.model.specs.Choice.{Entry, output, next, may, row, times, rows, entries, fits}
-use Rattle.model.proofs.FitsTest.{row-length}
-use Rattle.model.proofs.ComposedNumbers.{times-length}
-use Rattle.text.specs.Text.{decimal, hex, line, field, fields, rowText, rowsText, tablesText, rowCount, unblank, textOf}
-use Rattle.text.proofs.DecimalLaws.{decimal-few, decimal-short}
-use Rattle.text.proofs.RowTexts.{rowOf, row-first, row-next}
+use Rattle.model.specs.Compose.{rowLength, rowAt}
+use Rattle.architecture.proofs.ProcessesOfArrays.{row-few}
+use Rattle.template.proofs.FilledShort.{longest, filled-short}
+use Rattle.text.specs.Rows.{rowOf}
+use Rattle.text.specs.Text.{field, fields, head, rowText, rowsText, tablesText, rowCount, unblank, greatestText, textOf}
+use Rattle.text.proofs.RowsShort.{from-short, processes-short}
 
--- entries that fit, in two parts
-fits-parts : (es fs : List Entry) (c : List ℕ) → fits (es ++ fs) c ≡ true → (fits es c ≡ true) × (fits fs (drop (length es) c) ≡ true)
-unfolding fits
-fits-parts [] fs c h = (refl, h)
-fits-parts (e ∷ es) fs [] h = let z : _≡_ {A = ℕ} 0 1 = cc in absurd (omega arith)
-fits-parts (e ∷ es) fs (v ∷ c) h =
-    let one : (may e v ≡ true) × (fits (es ++ fs) c ≡ true) = and-is (may e v) (fits (es ++ fs) c) .0 h in
-    let rest = fits-parts es fs c (one .1) in
-    (and-is (may e v) (fits es c) .1 (one .0, rest .0), rest .1)
+-- ---- rows of bytes
+abbrev pub Bytes : List ℕ → Type 0
+Bytes l = (k : ℕ) → getD l k 0 < 256
 
--- a next state is one digit
-nexts-short : (k b : ℕ) (c : List ℕ) → b ≤ 10 → fits (replicate k (next b)) c ≡ true → length (fields (take k c)) ≤ 2 * k
-unfolding fits may fields field
-nexts-short zero b c l h = omega arith
-nexts-short (suc k) b [] l h = omega arith
-nexts-short (suc k) b (v ∷ c) l h =
-    let one = and-is (may (next b) v) (fits (replicate k (next b)) c) .0 h in
-    let digit : length (decimal v) ≡ 1 = ap length (decimal-few v (omega (arith, ltb-true v b (one .0)))) in
-    omega (arith, length-append (field v) (fields (take k c)), digit, nexts-short k b c l (one .1))
+take-bytes : (n : ℕ) (l : List ℕ) → Bytes l → Bytes (take n l)
+take-bytes zero l h k = omega arith
+take-bytes (suc n) [] h k = omega arith
+take-bytes (suc n) (x ∷ xs) h zero = h 0
+take-bytes (suc n) (x ∷ xs) h (suc k) = take-bytes n xs (λ k. h (suc k)) k
 
-rows-length : (p : Process) → length (times (p .bound) (row p)) ≡ processLength p
-unfolding processLength
-rows-length p = times-length (p .bound) (row p) ∙ ap (λ (n : ℕ). p .bound * n) (row-length p)
+drop-bytes : (n : ℕ) (l : List ℕ) → Bytes l → Bytes (drop n l)
+drop-bytes n l h k = rw getD-drop (h (n + k))
 
-module _ {v e : ℕ} where
-  -- a row has at most 39 bytes
-  row-short : (p : Process) (i x : ℕ) (c : List ℕ) → ProperProcess v e p → i < 10 → x < 10 → fits (row p) c ≡ true → length (rowText i x (take (rowLength p) c)) ≤ 39
-  unfolding row fits rowLength rowText field hex
-  row-short p i x [] g hi hx h = let z : _≡_ {A = ℕ} 0 1 = cc in absurd (omega arith)
-  row-short p i x (v ∷ c) g hi hx h =
-      let k = 2 ^ count (p .inputs) in
-      let few : k ≤ 16 = pow-mono (g .few-inputs) in
-      let rest = and-is (may (output (p .outputs)) v) (fits (replicate k (next (p .bound))) c) .0 h .1 in
-      rw (one-add k) (simp length-append (omega (arith, few, ap length (decimal-few i hi), ap length (decimal-few x hx), nexts-short k (p .bound) c (omega (arith, g .few-states)) rest)))
+pub row-bytes : (p : Process) (at : ℕ) (c : List ℕ) (x : ℕ) → Bytes c → Bytes (rowOf p at c x)
+row-bytes p at c x h = take-bytes (rowLength p) (drop (rowAt p at x) c) (drop-bytes (rowAt p at x) c h)
 
-  -- so the rows of a process
-  rows-short : (i : ℕ) (p : Process) (at : ℕ) (c : List ℕ) (n x : ℕ) → ProperProcess v e p → i < 10 → x + n ≤ 10
-      → fits (times n (row p)) (drop (rowAt p at x) c) ≡ true → length (rowsText i p at c n x) ≤ 39 * n
-  unfolding rowsText times
-  rows-short i p at c zero x g hi hx h = omega arith
-  rows-short i p at c (suc n) x g hi hx h =
-      let parts = fits-parts (row p) (times n (row p)) (drop (rowAt p at x) c) h in
-      let later : fits (times n (row p)) (drop (rowAt p at (suc x)) c) ≡ true = rw (row-next p at x, ← row-length p, ← drop-drop (length (row p)) (rowAt p at x) c) (parts .1) in
-      let own = row-short p i x (drop (rowAt p at x) c) g hi (omega arith) (parts .0) in
-      omega (arith, length-append (rowText i x (rowOf p at c x)) (rowsText i p at c n (suc x)), own, rows-short i p at c n (suc x) g hi (omega arith) later)
+-- a row has at most 17 entries
+pub row-short : (p : Process) (at : ℕ) (c : List ℕ) (x : ℕ) {v e : ℕ} → ProperProcess v e p → length (rowOf p at c x) ≤ 17
+row-short p at c x g = simp length-take (omega (arith, row-few p (g .few-inputs)))
 
-  -- so the rows of all processes
-  tables-short : (i : ℕ) (ps : List Process) (at : ℕ) (c : List ℕ) → ProperProcesses v e ps → i + length ps ≤ 10
-      → fits (rows ps) (drop at c) ≡ true → length (tablesText i ps at c) ≤ 156 * length ps
-  unfolding tablesText rows
-  tables-short i [] at c g hi h = omega arith
-  tables-short i (p ∷ ps) at c g hi h =
-      let own : ProperProcess v e p = g p (List·Memᴰ·head refl) in
-      let parts = fits-parts (times (p .bound) (row p)) (rows ps) (drop at c) h in
-      let first : fits (times (p .bound) (row p)) (drop (rowAt p at 0) c) ≡ true = rw (row-first p at) (parts .0) in
-      let later : fits (rows ps) (drop (at + processLength p) c) ≡ true = rw (drop-drop (length (times (p .bound) (row p))) at c, rows-length p) at (parts .1) in
-      omega (
-        arith,
-        length-append (rowsText i p at c (p .bound) 0) (tablesText (suc i) ps (at + processLength p) c),
-        rows-short i p at c (p .bound) 0 own (omega arith) (omega (arith, own .few-states)) first,
-        own .few-states,
-        tables-short (suc i) ps (at + processLength p) c (λ q m. g q (List·Memᴰ·tail m)) (omega arith) later,
-      )
+-- ---- tables
+fields-short : (ns : List ℕ) → Bytes ns → length (fields ns) ≤ 4 * length ns
+unfolding fields longest
+fields-short [] h = omega arith
+fields-short (n ∷ ns) h =
+    let own : length (field n) ≤ 4 = filled-short 2 (ascii " #") (n ∷ []) (omega (arith, h 0), tt) in
+    omega (arith, length-append (field n) (fields ns), fields-short ns (λ k. h (suc k)))
 
-  count-few : (ps : List Process) → ProperProcesses v e ps → rowCount ps ≤ 4 * length ps
-  unfolding rowCount
-  count-few [] g = omega arith
-  count-few (p ∷ ps) g = omega (arith, g p (List·Memᴰ·head refl) .few-states, count-few ps (λ q m. g q (List·Memᴰ·tail m)))
+-- a row has at most 75 bytes
+line-short : (i x : ℕ) (row : List ℕ) → i < 1000 → x < 1000 → Bytes row → length row ≤ 17 → length (rowText i x row) ≤ 75
+unfolding rowText longest
+line-short i x row hi hx h l =
+    let front : length (head i x (getD row 0 0)) ≤ 10 = filled-short 2 (ascii "# # %") (i ∷ x ∷ getD row 0 0 ∷ []) (hi, (hx, (omega (arith, h 0), tt))) in
+    simp length-append (omega (arith, fields-short (drop 1 row) (drop-bytes 1 row h), length-drop 1 row))
 
--- 649 bytes: `tables 16`, 16 rows and `greatest 65534`
-pub text-short : (a : Architecture) (c annotation : List ℕ) → ProperArchitecture a → fits (entries a) c ≡ true → greatest unblank annotation < 65536 → length (textOf a c annotation) ≤ 649
-unfolding textOf entries line
+tables-short : {v e : ℕ} (ps : List Process) (c : List ℕ) → ProperProcesses v e ps → length ps ≤ 4 → Bytes c → length (tablesText ps c) ≤ length ps * 300
+tables-short {v} {e} ps c g few h = processes-short (rowsText c) 300 4 one 0 ps 0 g (omega arith)
+  where
+    row : (i : ℕ) (p : Process) (at : ℕ) → i < 4 → ProperProcess v e p → (x : ℕ) → x < 4 → length (rowText i x (rowOf p at c x)) ≤ 75
+    row i p at hi own x hx = line-short i x (rowOf p at c x) (omega arith) (omega arith) (row-bytes p at c x h) (row-short p at c x own)
+
+    one : (i : ℕ) (p : Process) (at : ℕ) → i < 4 → ProperProcess v e p → length (rowsText c i p at) ≤ 300
+    one i p at hi own = omega (arith, own .few-states, from-short (λ x. rowText i x (rowOf p at c x)) 75 4 (row i p at hi own) (p .bound) 0 (omega (arith, own .few-states)))
+
+count-few : {v e : ℕ} (ps : List Process) → ProperProcesses v e ps → rowCount ps ≤ 4 * length ps
+unfolding rowCount
+count-few [] g = omega arith
+count-few (p ∷ ps) g = omega (arith, g p (List·Memᴰ·head refl) .few-states, count-few ps (λ q m. g q (List·Memᴰ·tail m)))
+
+-- ---- the lines with a number
+pub greatest-short : (annotation : List ℕ) → greatest unblank annotation < 65536 → length (greatestText annotation) ≤ 15
+unfolding longest
+greatest-short annotation few = filled-short 4 (ascii "greatest #\n") (greatest unblank annotation ∷ []) (omega arith, tt)
+
+-- ---- the text: at most 16 rows between two lines
+pub text-short : (a : Architecture) (c annotation : List ℕ) → ProperArchitecture a → Bytes c → greatest unblank annotation < 65536 → length (textOf a c annotation) ≤ 2048
+unfolding textOf longest
 text-short a c annotation g h few =
-    let count = count-few (a .processes) (g .front .processes-proper) in
-    simp length-append
-    (omega (
-      arith,
-      g .front .few-processes,
-      decimal-short 1 (rowCount (a .processes)) (omega (arith, count, g .front .few-processes)),
-      tables-short 0 (a .processes) 0 c (g .front .processes-proper) (omega (arith, g .front .few-processes)) h,
-      decimal-short 4 (greatest unblank annotation) (omega (arith, few)),
-    ))
+    let ps = a .processes in
+    let f = g .front in
+    let count = filled-short 4 (ascii "tables #\n") (rowCount ps ∷ []) (omega (arith, count-few ps (f .processes-proper), f .few-processes), tt) in
+    simp length-append (omega (arith, count, f .few-processes, tables-short ps c (f .processes-proper) (f .few-processes) h, greatest-short annotation few))

@@ -29,35 +29,53 @@ enum-told c = search needs
 greatest-text-requires : tie.Need-greatest-text-requires
 greatest-text-requires c κs = search needs
 
--- `Finding::No => text::loop_text(text)`
+-- `Finding::No => text::answer_text(text, b"loop\n")`
 enum-told-2 : tie.Need-enum-told-2
 enum-told-2 c = search needs
 
--- `Finding::No => text::loop_text(text)`
-loop-text-requires : tie.Need-loop-text-requires
-loop-text-requires c κs = search needs
+-- `Finding::No => text::answer_text(text, b"loop\n")`
+slice-aggregate-answer-text : tie.Need-slice-aggregate-answer-text
+slice-aggregate-answer-text c = search needs
+
+-- `Finding::No => text::answer_text(text, b"loop\n")`
+answer-text-requires : tie.Need-answer-text-requires
+answer-text-requires c κs = search needs
+
+-- `match verdict`
+same-length : tie.Need-same-length
+same-length c = search needs
 
 -- `match verdict`
 returns : tie.Need-returns
 returns c =
-    let b = c .before .before .before .before .before .before .before .before in
-    let o = c .before .before .before .verdict .given in
-    rw (says-refused (b .args .sheet .now) (b .args .book .now) (o .0 .0) (ap (λ (x : AfterAnnotate). x .answer) (b .pre) ∙ o .1)) (c .refused-text .ensures)
+    let b = c .before .before .before .before .before .before .before .before .before .before .before in
+    let o = c .before .before .before .before .before .verdict .given in
+    rw (says-refused (b .args .sheet .now) (b .args .book .now) (o .0 .0) (ap (λ (x : AfterAnnotate). x .answer) (b .pre .1) ∙ o .1)) (c .before .before .refused-text .ensures)
+
+-- `match verdict`
+same-length-2 : tie.Need-same-length-2
+same-length-2 c = search needs
 
 -- `match verdict`
 returns-2 : tie.Need-returns-2
 returns-2 c =
-    let b = c .before .before .before .before .before .before .before .before .before .before in
+    let arm = c .before .before .before .before in
+    let b = arm .before .before .before .before .before .before .before .before .before in
     let a = b .args in
-    let yes = c .before .before .before .before .before .verdict2 .given .1 ∙ ap (λ (f : Finding). Verdict.Found f) (c .before .before .enum-told .given .1) in
-    rw (says-greatest (a .sheet .now) (a .book .now) (a .annotation .now) (b .pre ∙ ap (λ (v : Verdict). left v (a .annotation .now)) yes)) (c .greatest-text .ensures)
+    let yes = arm .before .before .before .verdict2 .given .1 ∙ ap (λ (f : Finding). Verdict.Found f) (arm .enum-told .given .1) in
+    rw (says-greatest (a .sheet .now) (a .book .now) (a .annotation .now) (b .pre .1 ∙ ap (λ (v : Verdict). left v (a .annotation .now)) yes)) (c .before .before .greatest-text .ensures)
+
+-- `match verdict`
+same-length-3 : tie.Need-same-length-3
+same-length-3 c = search needs
 
 -- `match verdict`
 returns-3 : tie.Need-returns-3
 returns-3 c =
-    let b = c .before .before .before .before .before .before .before .before .before .before in
-    let no = c .before .before .before .before .before .verdict2 .given .1 ∙ ap (λ (f : Finding). Verdict.Found f) (c .before .before .enum-told2 .given .1) in
-    rw (says-loop (b .args .sheet .now) (b .args .book .now) (ap (λ (x : AfterAnnotate). x .answer) (b .pre) ∙ no)) (c .loop-text .ensures)
+    let arm = c .before .before .before .before .before in
+    let b = arm .before .before .before .before .before .before .before .before .before in
+    let no = arm .before .before .before .verdict2 .given .1 ∙ ap (λ (f : Finding). Verdict.Found f) (arm .enum-told2 .given .1) in
+    rw (says-loop (b .args .sheet .now) (b .args .book .now) (ap (λ (x : AfterAnnotate). x .answer) (b .pre .1) ∙ no)) (c .before .before .answer-text .ensures)
 
 pub verdict-text-spec : {M : Type 1} → statement M
 verdict-text-spec =
@@ -69,7 +87,11 @@ verdict-text-spec =
     enum-told
     greatest-text-requires
     enum-told-2
-    loop-text-requires
+    slice-aggregate-answer-text
+    answer-text-requires
+    same-length
     returns
+    same-length-2
     returns-2
+    same-length-3
     returns-3)

@@ -1,8 +1,7 @@
 -- `checksheet::answer` is safe, and what it puts out is the text that is due: the text of the reply is whole.
-use mathlib.Core.Path.{ap}
 use native.Mathlib.Omega.{arith}
-use lib.ListN.{length}
 use borrow.Author.Needs.{needs}
+use Rattle.template.proofs.FilledShort.{text-length}
 use Rattle.checksheet.specs.Printed.{printed}
 use Rattle.checksheet.proofs.answer.Statement.{statement}
 use Rattle.checksheet.proofs.answer.Tie as tie
@@ -12,21 +11,25 @@ check-requires : tie.Need-check-requires
 check-requires c κs = search needs
 
 -- `let end = reply_text(&mut text, reply)`
+slice-aggregate-reply-text : tie.Need-slice-aggregate-reply-text
+slice-aggregate-reply-text c = search needs
+
+-- `let end = reply_text(&mut text, reply)`
 reply-text-requires : tie.Need-reply-text-requires
 reply-text-requires c κs = search needs
 
 -- `put_out(sheet, &text[..end])`
 array-share-prefix-text : tie.Need-array-share-prefix-text
-array-share-prefix-text c = search needs
+array-share-prefix-text c = let f = c .before .reply-text in omega (arith, f .ensures .fits, f .kept .0)
 
 -- `put_out(sheet, &text[..end])`
 slice-aggregate-put-out : tie.Need-slice-aggregate-put-out
-slice-aggregate-put-out c = let h = c .before .reply-text .ensures in omega (arith, h .whole, ap length (h .is))
+slice-aggregate-put-out c = text-length (c .before .before .reply-text .ensures)
 
 -- `put_out(sheet, &text[..end])`
 put-out-requires : tie.Need-put-out-requires
 unfolding printed
-put-out-requires c κs = rw (← c .before .before .before .check .ensures) (c .before .reply-text .ensures .is)
+put-out-requires c κs = rw (← c .before .before .before .before .check .ensures) (c .before .before .reply-text .ensures .is)
 
 -- `if let Reply::Refused(refusal) = reply`
 enum-known-reply : tie.Need-enum-known-reply
@@ -53,6 +56,7 @@ answer-spec =
     tie.close
     (tie.spec
     check-requires
+    slice-aggregate-reply-text
     reply-text-requires
     array-share-prefix-text
     slice-aggregate-put-out

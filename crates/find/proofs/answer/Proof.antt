@@ -1,8 +1,7 @@
 -- `find::answer` is safe, and what it puts out is the text that is due: the text is whole.
-use mathlib.Core.Path.{ap}
 use native.Mathlib.Omega.{arith}
-use lib.ListN.{length}
 use borrow.Author.Needs.{needs}
+use Rattle.template.proofs.FilledShort.{text-length}
 use Rattle.find.proofs.FoundBuffers.{left-so, left-tables}
 use Rattle.find.proofs.answer.Statement.{statement}
 use Rattle.find.proofs.answer.Tie as tie
@@ -28,22 +27,26 @@ slice-aggregate-outcome-text-2 : tie.Need-slice-aggregate-outcome-text-2
 slice-aggregate-outcome-text-2 c = search needs
 
 -- `let end = outcome_text(&mut text, sheet, outcome, &book, &annotation)`
+slice-aggregate-outcome-text-3 : tie.Need-slice-aggregate-outcome-text-3
+slice-aggregate-outcome-text-3 c = search needs
+
+-- `let end = outcome_text(&mut text, sheet, outcome, &book, &annotation)`
 outcome-text-requires : tie.Need-outcome-text-requires
 outcome-text-requires c κs =
     let f = c .before .before .before .before .before .find in
-    left-so _ _ _ _ (f .ensures .0) (f .ensures .1 .0) (f .ensures .1 .1)
+    (search needs, left-so _ _ _ _ (f .ensures .0) (f .ensures .1 .0) (f .ensures .1 .1))
 
 -- `put_out(sheet, &text[..end])`
 array-share-prefix-text : tie.Need-array-share-prefix-text
-array-share-prefix-text c = search needs
+array-share-prefix-text c = let f = c .before .outcome-text in omega (arith, f .ensures .fits, f .kept .0)
 
 -- `put_out(sheet, &text[..end])`
 slice-aggregate-put-out : tie.Need-slice-aggregate-put-out
-slice-aggregate-put-out c = let h = c .before .outcome-text .ensures in omega (arith, h .whole, ap length (h .is))
+slice-aggregate-put-out c = text-length (c .before .before .outcome-text .ensures)
 
 -- `put_out(sheet, &text[..end])`
 put-out-requires : tie.Need-put-out-requires
-put-out-requires c κs = search needs
+put-out-requires c κs = c .before .before .outcome-text .ensures .is
 
 -- `Outcome::Refused(refusal) => cause::explain(refusal, sheet)`
 enum-known-outcome : tie.Need-enum-known-outcome
@@ -71,7 +74,7 @@ slice-aggregate-save-found-2 c = search needs
 -- `Outcome::Tables => save_found(sheet, &book, &annotation)`
 save-found-requires : tie.Need-save-found-requires
 save-found-requires c κs =
-    let f = c .before .before .before .before .before .before .before .before .before .before .before .before .find in
+    let f = c .before .before .before .before .before .before .before .before .before .before .before .before .before .find in
     left-tables _ _ _ _ (f .ensures .0) (f .ensures .1 .0) (f .ensures .1 .1) (c .before .before .enum-told2 .given .1)
 
 -- `match outcome`
@@ -95,6 +98,7 @@ answer-spec =
     find-requires
     slice-aggregate-outcome-text
     slice-aggregate-outcome-text-2
+    slice-aggregate-outcome-text-3
     outcome-text-requires
     array-share-prefix-text
     slice-aggregate-put-out

@@ -19,13 +19,17 @@ enum-known-outcome c = search needs
 refused-text-requires : tie.Need-refused-text-requires
 refused-text-requires c κs = search needs
 
--- `Outcome::Nothing => text::none_text(text)`
+-- `Outcome::Nothing => text::answer_text(text, b"none\n")`
 enum-told : tie.Need-enum-told
 enum-told c = search needs
 
--- `Outcome::Nothing => text::none_text(text)`
-none-text-requires : tie.Need-none-text-requires
-none-text-requires c κs = search needs
+-- `Outcome::Nothing => text::answer_text(text, b"none\n")`
+slice-aggregate-answer-text : tie.Need-slice-aggregate-answer-text
+slice-aggregate-answer-text c = search needs
+
+-- `Outcome::Nothing => text::answer_text(text, b"none\n")`
+answer-text-requires : tie.Need-answer-text-requires
+answer-text-requires c κs = search needs
 
 -- `Outcome::Tables => found_text(text, sheet, book, annotation)`
 enum-told-2 : tie.Need-enum-told-2
@@ -34,29 +38,42 @@ enum-told-2 c = search needs
 -- `Outcome::Tables => found_text(text, sheet, book, annotation)`
 found-text-requires : tie.Need-found-text-requires
 found-text-requires c κs =
-    let b = c .before .before .before .before .before .before in
-    b .pre ∙ ap (λ (o : Outcome). left o (b .args .book .now) (b .args .annotation .now)) (c .before .enum-told2 .given .1)
+    let b = c .before .before .before .before .before .before .before in
+    (b .pre .0, b .pre .1 ∙ ap (λ (o : Outcome). left o (b .args .book .now) (b .args .annotation .now)) (c .before .enum-told2 .given .1))
 
 -- the buffers are long enough for every proper sheet
 rooms : (338 ≤ length book₀) × (4096 ≤ length annotation₀)
 rooms = (omega (arith, length-replicate {A = ℕ} 338 0), omega (arith, length-replicate {A = ℕ} 4096 0))
 
 -- `match outcome`
+same-length : tie.Need-same-length
+same-length c = search needs
+
+-- `match outcome`
 returns : tie.Need-returns
 returns c =
-    let b = c .before .before .before .before .before .before .before .before in
-    let o = c .before .before .before .outcome .given in
-    rw (says-refused (b .args .sheet .now) book₀ annotation₀ (rooms .0) (rooms .1) (o .0 .0) (ap (λ (x : AfterFind). x .answer) (b .pre) ∙ o .1)) (c .refused-text .ensures)
+    let b = c .before .before .before .before .before .before .before .before .before .before .before in
+    let o = c .before .before .before .before .before .outcome .given in
+    rw (says-refused (b .args .sheet .now) book₀ annotation₀ (rooms .0) (rooms .1) (o .0 .0) (ap (λ (x : AfterFind). x .answer) (b .pre .1) ∙ o .1)) (c .before .before .refused-text .ensures)
+
+-- `match outcome`
+same-length-2 : tie.Need-same-length-2
+same-length-2 c = search needs
 
 -- `match outcome`
 returns-2 : tie.Need-returns-2
 returns-2 c =
-    let b = c .before .before .before .before .before .before .before in
-    rw (says-nothing (b .args .sheet .now) book₀ annotation₀ (rooms .0) (rooms .1) (ap (λ (x : AfterFind). x .answer) (b .pre) ∙ c .before .before .enum-told .given .1)) (c .none-text .ensures)
+    let b = c .before .before .before .before .before .before .before .before .before .before .before in
+    let told = c .before .before .before .before .before .enum-told .given .1 in
+    rw (says-nothing (b .args .sheet .now) book₀ annotation₀ (rooms .0) (rooms .1) (ap (λ (x : AfterFind). x .answer) (b .pre .1) ∙ told)) (c .before .before .answer-text .ensures)
+
+-- `match outcome`
+same-length-3 : tie.Need-same-length-3
+same-length-3 c = search needs
 
 -- `match outcome`
 returns-3 : tie.Need-returns-3
-returns-3 c = search needs
+returns-3 c = c .before .before .found-text .ensures
 
 pub outcome-text-spec : {M : Type 1} → statement M
 outcome-text-spec =
@@ -65,9 +82,13 @@ outcome-text-spec =
     enum-known-outcome
     refused-text-requires
     enum-told
-    none-text-requires
+    slice-aggregate-answer-text
+    answer-text-requires
     enum-told-2
     found-text-requires
+    same-length
     returns
+    same-length-2
     returns-2
+    same-length-3
     returns-3)

@@ -16,36 +16,60 @@ refused-text-requires c κs = search needs
 enum-known-verdict-2 : tie.Need-enum-known-verdict-2
 enum-known-verdict-2 c = search needs
 
--- `Finding::Yes => text::yes_text(text)`
+-- `Finding::Yes => text::answer_text(text, b"yes\n")`
 enum-told : tie.Need-enum-told
 enum-told c = search needs
 
--- `Finding::Yes => text::yes_text(text)`
-yes-text-requires : tie.Need-yes-text-requires
-yes-text-requires c κs = search needs
+-- `Finding::Yes => text::answer_text(text, b"yes\n")`
+slice-aggregate-answer-text : tie.Need-slice-aggregate-answer-text
+slice-aggregate-answer-text c = search needs
 
--- `Finding::No => text::no_text(text)`
+-- `Finding::Yes => text::answer_text(text, b"yes\n")`
+answer-text-requires : tie.Need-answer-text-requires
+answer-text-requires c κs = search needs
+
+-- `Finding::No => text::answer_text(text, b"no\n")`
 enum-told-2 : tie.Need-enum-told-2
 enum-told-2 c = search needs
 
--- `Finding::No => text::no_text(text)`
-no-text-requires : tie.Need-no-text-requires
-no-text-requires c κs = search needs
+-- `Finding::No => text::answer_text(text, b"no\n")`
+slice-aggregate-answer-text-2 : tie.Need-slice-aggregate-answer-text-2
+slice-aggregate-answer-text-2 c = search needs
+
+-- `Finding::No => text::answer_text(text, b"no\n")`
+answer-text-requires-2 : tie.Need-answer-text-requires-2
+answer-text-requires-2 c κs = search needs
+
+-- `match verdict`
+same-length : tie.Need-same-length
+same-length c = search needs
 
 -- `match verdict`
 returns : tie.Need-returns
 unfolding verdictText
-returns c = rw (c .before .before .before .verdict .given .1) (c .refused-text .ensures)
+returns c = rw (c .before .before .before .before .before .verdict .given .1) (c .before .before .refused-text .ensures)
+
+-- `match verdict`
+same-length-2 : tie.Need-same-length-2
+same-length-2 c = search needs
 
 -- `match verdict`
 returns-2 : tie.Need-returns-2
 unfolding verdictText
-returns-2 c = rw (c .before .before .before .before .before .verdict2 .given .1, c .before .before .enum-told .given .1) (c .yes-text .ensures)
+returns-2 c =
+    let arm = c .before .before .before .before .before in
+    rw (arm .before .before .before .verdict2 .given .1, arm .enum-told .given .1) (c .before .before .answer-text .ensures)
+
+-- `match verdict`
+same-length-3 : tie.Need-same-length-3
+same-length-3 c = search needs
 
 -- `match verdict`
 returns-3 : tie.Need-returns-3
 unfolding verdictText
-returns-3 c = rw (c .before .before .before .before .before .verdict2 .given .1, c .before .before .enum-told2 .given .1) (c .no-text .ensures)
+returns-3 c =
+    let arm = c .before .before .before .before .before in
+    rw (arm .before .before .before .verdict2 .given .1, arm .enum-told2 .given .1) (c .before .before .answer-text2 .ensures)
 
 pub verdict-text-spec : {M : Type 1} → statement M
 verdict-text-spec =
@@ -55,9 +79,14 @@ verdict-text-spec =
     refused-text-requires
     enum-known-verdict-2
     enum-told
-    yes-text-requires
+    slice-aggregate-answer-text
+    answer-text-requires
     enum-told-2
-    no-text-requires
+    slice-aggregate-answer-text-2
+    answer-text-requires-2
+    same-length
     returns
+    same-length-2
     returns-2
+    same-length-3
     returns-3)

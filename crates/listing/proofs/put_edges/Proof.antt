@@ -3,16 +3,17 @@ use Prim.Native.Nat.{_+_, _-_, _≤_}
 use native.Mathlib.Omega.{arith}
 use Rattle.automaton.specs.Struct.{edgeOf, firstIn}
 use Rattle.append.proofs.Appending.{Appending, Opens, appending-none, appending-next, appending-length, appending-room, appending-all}
-use Rattle.listing.specs.Listing.{edgeText, edgesText}
-use Rattle.listing.proofs.PartsInTurn.{edgesFrom, edges-open, no-edge}
+use Rattle.text.specs.Rows.{eachEdge}
+use Rattle.text.proofs.RowTexts.{edgesFrom, edges-open, edges-none}
+use Rattle.listing.specs.Listing.{edgeText}
 use Rattle.listing.proofs.put_edges.Statement.{statement}
 use Rattle.listing.proofs.put_edges.Tie as tie
 
 abbrev Inv-loop : tie.InvT-loop
-Inv-loop text₀ start automaton n at₀ i₀ text at i = (i ≤ n) × Appending text₀ start (edgesText (firstIn automaton (automaton .edges))) at text (edgesFrom automaton i)
+Inv-loop text₀ start u n at₀ i₀ text at i = (i ≤ n) × Appending text₀ start (eachEdge edgeText (firstIn u (u .edges))) at text (edgesFrom edgeText u i)
 
 abbrev μ-loop : tie.MeasureT-loop
-μ-loop text₀ start automaton n at₀ i₀ text at i = n - i
+μ-loop text₀ start u n at₀ i₀ text at i = n - i
 
 -- `while i < n`
 loop-holds : tie.Need-loop-holds Inv-loop μ-loop
@@ -22,7 +23,7 @@ loop-holds c = (omega arith, appending-none _ _ _)
 abbrev entry : tie.At-loop Inv-loop μ-loop → tie.Start Inv-loop μ-loop
 entry c = c .before .before
 
--- `at = put_edge(text, at, automaton.edge(i))`
+-- `at = put_edge(text, at, u.edge(i))`
 edge-requires : tie.Need-edge-requires Inv-loop μ-loop
 edge-requires c κs = (entry (c .before .before) .pre .0, c .before .loop-test .taken)
 
@@ -31,27 +32,31 @@ abbrev turn : tie.After-edge Inv-loop μ-loop → tie.In-loop Inv-loop μ-loop
 turn c = c .before .before
 
 -- edge i is due next
-next : (c : tie.After-edge Inv-loop μ-loop) → let l = turn c .before in let u = entry l .args .automaton in let i = l .loop .i in
-    Opens (edgesFrom u i) (edgeText (edgeOf (c .edge .result))) (edgesFrom u (i + 1))
-next c = let l = turn c .before in edges-open (entry l .args .automaton) (l .loop .i) _ (c .edge .ensures) (turn c .loop-test .taken)
+next : (c : tie.After-edge Inv-loop μ-loop) → let l = turn c .before in let u = entry l .args .u in let i = l .loop .i in
+    Opens (edgesFrom edgeText u i) (edgeText (edgeOf (c .edge .result))) (edgesFrom edgeText u (i + 1))
+next c = let l = turn c .before in edges-open edgeText (entry l .args .u) (l .loop .i) _ (c .edge .ensures) (turn c .loop-test .taken)
 
--- `at = put_edge(text, at, automaton.edge(i))`
+-- `at = put_edge(text, at, u.edge(i))`
 put-edge-requires : tie.Need-put-edge-requires Inv-loop μ-loop
 put-edge-requires c κs = let l = turn c .before in appending-room (l .loop .inv .1) (entry l .pre .1) (next c)
 
+-- back from the end of a turn
+abbrev edge : tie.After-slice-known2 Inv-loop μ-loop → tie.After-edge Inv-loop μ-loop
+edge c = c .before .before .before
+
 -- `i += 1`
 add-i : tie.Need-add-i Inv-loop μ-loop
-add-i c = let t = turn (c .before .before .before) in omega (arith, t .loop-test .taken, entry (t .before) .pre .0 .few-edges)
+add-i c = let t = turn (edge c) in omega (arith, t .loop-test .taken, entry (t .before) .pre .0 .few-edges)
 
 -- `while i < n`
 loop-less : tie.Need-loop-less Inv-loop μ-loop
-loop-less c = omega (arith, turn (c .before .before .before) .loop-test .taken)
+loop-less c = omega (arith, turn (edge c) .loop-test .taken)
 
 -- `while i < n`
 loop-again : tie.Need-loop-again Inv-loop μ-loop
 loop-again c =
-    let b = c .before .before .before in
-    (omega (arith, turn b .loop-test .taken), appending-next (turn b .before .loop .inv .1) (next b) (c .before .before .put-edge .ensures))
+    let t = turn (edge c) in
+    (omega (arith, t .loop-test .taken), appending-next (t .before .loop .inv .1) (next (edge c)) (c .before .before .put-edge .ensures))
 
 -- `at`
 same-length : tie.Need-same-length Inv-loop μ-loop
@@ -61,7 +66,7 @@ same-length c = appending-length (c .before .loop .inv .1) (entry (c .before) .p
 returns : tie.Need-returns Inv-loop μ-loop
 returns c =
     let l = c .before in
-    appending-all (rw (no-edge (entry l .args .automaton) (l .loop .i) (omega (arith, c .loop-test .left, l .loop .inv .0))) at (l .loop .inv .1))
+    appending-all (rw (edges-none edgeText (entry l .args .u) (l .loop .i) (omega (arith, c .loop-test .left, l .loop .inv .0))) at (l .loop .inv .1))
 
 pub put-edges-spec : {M : Type 1} → statement M
 put-edges-spec =

@@ -1,109 +1,63 @@
--- `listing::put_process` meets its contract: the number, the two masks and the bound, each behind the one before.
-use native.Mathlib.Omega.{arith}
-use lib.ListN.{length-append}
+-- `listing::put_process` meets its contract: the fields are those of the process.
 use borrow.Author.Needs.{needs}
-use Rattle.append.proofs.Appended.{append-more}
-use Rattle.listing.specs.Listing.{processText}
 use Rattle.listing.proofs.put_process.Statement.{statement}
 use Rattle.listing.proofs.put_process.Tie as tie
 
--- ---- back from each part
-abbrev entry : tie.After-put-number → tie.Start
-entry c = c .before .before .before .before
+-- `let inputs = a.inputs_of(i) as usize`
+inputs-of-requires : tie.Need-inputs-of-requires
+inputs-of-requires c κs = search needs
 
-abbrev number : tie.After-put-mask → tie.After-put-number
-number c = c .before .before .before .before .before .before
+-- `let inputs = a.inputs_of(i) as usize`
+cast-inputs : tie.Need-cast-inputs
+cast-inputs c = search needs
 
-abbrev inputs : tie.After-put-mask2 → tie.After-put-mask
-inputs c = c .before .before .before .before .before .before
+-- `let outputs = a.outputs_of(i) as usize`
+outputs-of-requires : tie.Need-outputs-of-requires
+outputs-of-requires c κs = search needs
 
--- `let after_number = put_number(text, at, b"process ", i)`
-slice-aggregate-put-number : tie.Need-slice-aggregate-put-number
-slice-aggregate-put-number c = search needs
+-- `let outputs = a.outputs_of(i) as usize`
+cast-outputs : tie.Need-cast-outputs
+cast-outputs c = search needs
 
--- `let after_number = put_number(text, at, b"process ", i)`
-put-number-requires : tie.Need-put-number-requires
-unfolding processText
-put-number-requires c κs = omega (arith, simp length-append at (c .before .before .before .pre))
+-- `b"process # reads @ sets @ states #\n"`
+slice-aggregate-put-filled : tie.Need-slice-aggregate-put-filled
+slice-aggregate-put-filled c = search needs
 
--- `let after_inputs = put_mask(text, after_number, b" reads", b" v", inputs as u16)`
-slice-aggregate-put-mask : tie.Need-slice-aggregate-put-mask
-slice-aggregate-put-mask c = search needs
+-- `&[i, inputs, outputs, a.bound_of(i)]`
+bound-of-requires : tie.Need-bound-of-requires
+bound-of-requires c κs = search needs
 
--- `let after_inputs = put_mask(text, after_number, b" reads", b" v", inputs as u16)`
-slice-aggregate-put-mask-2 : tie.Need-slice-aggregate-put-mask-2
-slice-aggregate-put-mask-2 c = search needs
+-- `&[i, inputs, outputs, a.bound_of(i)]`
+slice-aggregate-put-filled-2 : tie.Need-slice-aggregate-put-filled-2
+slice-aggregate-put-filled-2 c = search needs
 
--- `let after_inputs = put_mask(text, after_number, b" reads", b" v", inputs as u16)`
-put-mask-requires : tie.Need-put-mask-requires
-unfolding processText
-put-mask-requires c κs =
-    let n = c .before .before .before .before .before in
-    omega (arith, simp length-append at (entry n .pre), n .put-number .ensures .ends, n .put-number .kept .0)
-
--- `let after_outputs = put_mask(text, after_inputs, b" sets", b" v", outputs as u16)`
-slice-aggregate-put-mask-3 : tie.Need-slice-aggregate-put-mask-3
-slice-aggregate-put-mask-3 c = search needs
-
--- `let after_outputs = put_mask(text, after_inputs, b" sets", b" v", outputs as u16)`
-slice-aggregate-put-mask-4 : tie.Need-slice-aggregate-put-mask-4
-slice-aggregate-put-mask-4 c = search needs
-
--- `let after_outputs = put_mask(text, after_inputs, b" sets", b" v", outputs as u16)`
-put-mask-requires-2 : tie.Need-put-mask-requires-2
-unfolding processText
-put-mask-requires-2 c κs =
-    let i = c .before .before .before .before .before in
-    let n = number i in
-    omega (arith, simp length-append at (entry n .pre), n .put-number .ensures .ends, n .put-number .kept .0, i .put-mask .ensures .ends, i .put-mask .kept .0)
-
--- `put_line(text, after_outputs, b" states ", bound)`
-slice-aggregate-put-line : tie.Need-slice-aggregate-put-line
-slice-aggregate-put-line c = search needs
-
--- `put_line(text, after_outputs, b" states ", bound)`
-put-line-requires : tie.Need-put-line-requires
-unfolding processText
-put-line-requires c κs =
+-- `put_filled(text, at, b"process # reads @ sets @ states #\n", &[i, inputs, outputs, a.bound_of(i)])`
+put-filled-requires : tie.Need-put-filled-requires
+put-filled-requires c κs =
     let o = c .before .before .before .before in
-    let i = inputs o in
-    let n = number i in
-    omega (
-      arith,
-      simp length-append at (entry n .pre),
-      n .put-number .ensures .ends,
-      n .put-number .kept .0,
-      i .put-mask .ensures .ends,
-      i .put-mask .kept .0,
-      o .put-mask2 .ensures .ends,
-      o .put-mask2 .kept .0,
-    )
+    rw (o .before .inputs-of .ensures, o .outputs-of .ensures, c .before .bound-of .ensures) (c .before .before .before .before .before .before .before .pre .1 .1)
 
--- `put_line(text, after_outputs, b" states ", bound)`
+-- `put_filled(text, at, b"process # reads @ sets @ states #\n", &[i, inputs, outputs, a.bound_of(i)])`
 same-length : tie.Need-same-length
 same-length c = search needs
 
--- `put_line(text, after_outputs, b" states ", bound)`
+-- `put_filled(text, at, b"process # reads @ sets @ states #\n", &[i, inputs, outputs, a.bound_of(i)])`
 returns : tie.Need-returns
-unfolding processText
 returns c =
     let o = c .before .before .before .before .before .before .before in
-    let i = inputs o in
-    append-more (append-more (append-more (number i .put-number .ensures) (i .put-mask .ensures)) (o .put-mask2 .ensures)) (c .before .before .put-line .ensures)
+    rw (← o .before .inputs-of .ensures, ← o .outputs-of .ensures, ← c .before .before .before .before .bound-of .ensures) (c .before .before .put-filled .ensures)
 
 pub put-process-spec : {M : Type 1} → statement M
 put-process-spec =
     tie.close
     (tie.spec
-    slice-aggregate-put-number
-    put-number-requires
-    slice-aggregate-put-mask
-    slice-aggregate-put-mask-2
-    put-mask-requires
-    slice-aggregate-put-mask-3
-    slice-aggregate-put-mask-4
-    put-mask-requires-2
-    slice-aggregate-put-line
-    put-line-requires
+    inputs-of-requires
+    cast-inputs
+    outputs-of-requires
+    cast-outputs
+    slice-aggregate-put-filled
+    bound-of-requires
+    slice-aggregate-put-filled-2
+    put-filled-requires
     same-length
     returns)

@@ -1,91 +1,107 @@
--- `listing::put_sheet` meets its contract: the records and the counts, each behind the one before.
+-- `listing::put_sheet` meets its contract: its five parts, each behind the one before.
+use mathlib.Core.List.{List, _++_}
+use Prim.Native.Nat.{ℕ, _+_, _≤_}
 use native.Mathlib.Omega.{arith}
-use lib.ListN.{length-append}
+use lib.ListN.{length}
 use borrow.Author.Needs.{needs}
-use Rattle.architecture.specs.Struct.{architectureOf}
-use Rattle.automaton.specs.Struct.{automatonOf}
+use Rattle.architecture.specs.Struct.{architectureOf, processesIn}
+use Rattle.automaton.specs.Struct.{automatonOf, firstIn}
 use Rattle.sheet.proofs.AnswersOfReading.{architecture-proper}
-use Rattle.append.proofs.Appended.{append-more}
-use Rattle.listing.specs.Listing.{showText}
+use Rattle.append.specs.Appends.{Appends}
+use Rattle.append.proofs.Appended.{room-front, append-more, append-room}
+use Rattle.text.specs.Rows.{eachEdge}
+use Rattle.listing.specs.Listing.{frontText, processesText, statesText, edgeText, countsText, showText}
 use Rattle.listing.proofs.put_sheet.Statement.{statement}
 use Rattle.listing.proofs.put_sheet.Tie as tie
 
+-- ---- the parts, and the room for each behind those before it
+module _ (b : tie.Start) where
+  abbrev front : List ℕ
+  front = let a = b .args .sheet .architecture in frontText (a .variables) (a .environment) (a .root)
+
+  abbrev two : List ℕ
+  two = front ++ processesText (processesIn (b .args .sheet .architecture))
+
+  abbrev three : List ℕ
+  three = let u = b .args .sheet .automaton in two ++ statesText (u .states) (u .initial .0) (u .rejecting)
+
+  abbrev four : List ℕ
+  four = let u = b .args .sheet .automaton in three ++ eachEdge edgeText (firstIn u (u .edges))
+
+  abbrev Room : List ℕ → Type 0
+  Room part = 0 + length part ≤ length (b .args .text .now)
+
+  room-all : Room (four ++ countsText (architectureOf (b .args .sheet .architecture)))
+  unfolding showText architectureOf automatonOf
+  room-all = omega (arith, b .pre .1)
+
+  room-four : Room four
+  room-four = room-front _ _ four _ room-all
+
+  room-three : Room three
+  room-three = room-front _ _ three _ room-four
+
+  room-two : Room two
+  room-two = room-front _ _ two _ room-three
+
 -- ---- back from each part
-abbrev entry : tie.After-put-front → tie.Start
-entry c = c .before .before .before .before .before
+module _ (c : tie.After-put-front) where
+  abbrev entry : tie.Start
+  entry = c .before .before .before .before .before
 
-abbrev front : tie.After-put-processes → tie.After-put-front
-front c = c .before .before .before .before
+  fronted : Appends (entry .args .text .now) 0 (front entry) (c .put-front .result) (c .put-front .last .0)
+  fronted = c .put-front .ensures
 
-abbrev processes : tie.After-put-states → tie.After-put-processes
-processes c = c .before .before .before .before
+module _ (c : tie.After-put-processes) where
+  abbrev start₂ : tie.Start
+  start₂ = entry (c .before .before .before .before)
 
-abbrev states : tie.After-put-edges → tie.After-put-states
-states c = c .before .before .before .before
+  listed : Appends (start₂ .args .text .now) 0 (two start₂) (c .put-processes .result) (c .put-processes .last .0)
+  listed = append-more (fronted (c .before .before .before .before)) (c .put-processes .ensures)
+
+module _ (c : tie.After-put-states) where
+  abbrev start₃ : tie.Start
+  start₃ = start₂ (c .before .before .before .before)
+
+  stated : Appends (start₃ .args .text .now) 0 (three start₃) (c .put-states .result) (c .put-states .last .0)
+  stated = append-more (listed (c .before .before .before .before)) (c .put-states .ensures)
+
+module _ (c : tie.After-put-edges) where
+  abbrev start₄ : tie.Start
+  start₄ = start₃ (c .before .before .before .before)
+
+  joined : Appends (start₄ .args .text .now) 0 (four start₄) (c .put-edges .result) (c .put-edges .last .0)
+  joined = append-more (stated (c .before .before .before .before)) (c .put-edges .ensures)
 
 -- `let after_front = put_front(text, 0, a)`
 put-front-requires : tie.Need-put-front-requires
-unfolding showText
-put-front-requires c κs = let b = c .before .before .before .before in (architecture-proper (b .args .sheet) (b .pre .0), omega (arith, simp length-append at (b .pre .1)))
+put-front-requires c κs =
+    let b = c .before .before .before .before in
+    (architecture-proper (b .args .sheet) (b .pre .0), room-front _ _ (front b) _ (room-two b))
 
 -- `let after_processes = put_processes(text, after_front, a)`
 put-processes-requires : tie.Need-put-processes-requires
-unfolding showText architectureOf
 put-processes-requires c κs =
     let f = c .before .before .before in
     let b = entry f in
-    (architecture-proper (b .args .sheet) (b .pre .0), omega (arith, simp length-append at (b .pre .1), f .put-front .ensures .ends, f .put-front .kept .0))
+    (architecture-proper (b .args .sheet) (b .pre .0), append-room (fronted f) _ (room-two b))
 
--- `let after_states = put_states(text, after_processes, automaton)`
+-- `let after_states = put_states(text, after_processes, u)`
 put-states-requires : tie.Need-put-states-requires
-unfolding showText architectureOf
-put-states-requires c κs =
-    let p = c .before .before .before in
-    let f = front p in
-    omega (arith, simp length-append at (entry f .pre .1), f .put-front .ensures .ends, f .put-front .kept .0, p .put-processes .ensures .ends, p .put-processes .kept .0)
+put-states-requires c κs = let p = c .before .before .before in append-room (listed p) _ (room-three (start₂ p))
 
--- `let after_edges = put_edges(text, after_states, automaton)`
+-- `let after_edges = put_edges(text, after_states, u)`
 put-edges-requires : tie.Need-put-edges-requires
-unfolding showText architectureOf automatonOf
 put-edges-requires c κs =
     let s = c .before .before .before in
-    let p = processes s in
-    let f = front p in (
-      entry f .pre .0 .arrays .automaton,
-      omega (
-        arith,
-        simp length-append at (entry f .pre .1),
-        f .put-front .ensures .ends,
-        f .put-front .kept .0,
-        p .put-processes .ensures .ends,
-        p .put-processes .kept .0,
-        s .put-states .ensures .ends,
-        s .put-states .kept .0,
-      ),
-    )
+    (start₃ s .pre .0 .arrays .automaton, append-room (stated s) _ (room-four (start₃ s)))
 
 -- `put_counts(text, after_edges, a)`
 put-counts-requires : tie.Need-put-counts-requires
-unfolding showText architectureOf automatonOf
 put-counts-requires c κs =
     let e = c .before .before .before in
-    let s = states e in
-    let p = processes s in
-    let f = front p in (
-      architecture-proper (entry f .args .sheet) (entry f .pre .0),
-      omega (
-        arith,
-        simp length-append at (entry f .pre .1),
-        f .put-front .ensures .ends,
-        f .put-front .kept .0,
-        p .put-processes .ensures .ends,
-        p .put-processes .kept .0,
-        s .put-states .ensures .ends,
-        s .put-states .kept .0,
-        e .put-edges .ensures .ends,
-        e .put-edges .kept .0,
-      ),
-    )
+    let b = start₄ e in
+    (architecture-proper (b .args .sheet) (b .pre .0), append-room (joined e) _ (room-all b))
 
 -- `put_counts(text, after_edges, a)`
 same-length : tie.Need-same-length
@@ -94,12 +110,7 @@ same-length c = search needs
 -- `put_counts(text, after_edges, a)`
 returns : tie.Need-returns
 unfolding showText architectureOf automatonOf
-returns c =
-    let e = c .before .before .before .before .before .before in
-    let s = states e in
-    let p = processes s in
-    let records = append-more (append-more (append-more (front p .put-front .ensures) (p .put-processes .ensures)) (s .put-states .ensures)) (e .put-edges .ensures) in
-    append-more records (c .before .before .put-counts .ensures)
+returns c = append-more (joined (c .before .before .before .before .before .before)) (c .before .before .put-counts .ensures)
 
 pub put-sheet-spec : {M : Type 1} → statement M
 put-sheet-spec =

@@ -9,11 +9,11 @@ use Rattle.show.proofs.answer_text.Tie as tie
 read-requires : tie.Need-read-requires
 read-requires c κs = search needs
 
--- `Reply::Refused(refusal) => refused_text(text, refusal)`
+-- `Reply::Refused(refusal) => text::refused_text(text, refusal)`
 enum-known-answer : tie.Need-enum-known-answer
 enum-known-answer c = search needs
 
--- `Reply::Refused(refusal) => refused_text(text, refusal)`
+-- `Reply::Refused(refusal) => text::refused_text(text, refusal)`
 refused-text-requires : tie.Need-refused-text-requires
 refused-text-requires c κs = search needs
 
@@ -24,23 +24,31 @@ enum-told c = search needs
 -- `listing::sheet_text(text, read)`
 sheet-text-requires : tie.Need-sheet-text-requires
 sheet-text-requires c κs =
-    let r = c .before .before .before .before .read in
-    read-is-proper _ (r .result) (r .ensures .0) (r .ensures .1) (c .before .before .enum-told .given .1)
+    let r = c .before .before .before .before in
+    (r .before .before .before .pre, read-is-proper _ (r .read .result) (r .read .ensures .0) (r .read .ensures .1) (c .before .before .enum-told .given .1))
+
+-- `match answer`
+same-length : tie.Need-same-length
+same-length c = search needs
 
 -- `match answer`
 returns : tie.Need-returns
 unfolding shown answerText
 returns c =
-    let r = c .before .before .before .before .before .read in
-    let o = c .before .before .before .answer .given in
-    rw (read-refused _ (r .result .answer) (r .result .sheet) (o .0 .0) (r .ensures .0) (o .1)) (c .refused-text .ensures)
+    let r = c .before .before .before .before .before .before .before .read in
+    let o = c .before .before .before .before .before .answer .given in
+    rw (read-refused _ (r .result .answer) (r .result .sheet) (o .0 .0) (r .ensures .0) (o .1)) (c .before .before .refused-text .ensures)
+
+-- `match answer`
+same-length-2 : tie.Need-same-length-2
+same-length-2 c = search needs
 
 -- `match answer`
 returns-2 : tie.Need-returns-2
 unfolding shown answerText
 returns-2 c =
-    let r = c .before .before .before .before .before .read in
-    rw (read-proper _ (r .result .answer) (r .result .sheet) (r .ensures .0) (c .before .before .before .enum-told .given .1)) (c .sheet-text .ensures)
+    let r = c .before .before .before .before .before .before .before .read in
+    rw (read-proper _ (r .result .answer) (r .result .sheet) (r .ensures .0) (c .before .before .before .before .before .enum-told .given .1)) (c .before .before .sheet-text .ensures)
 
 pub answer-text-spec : {M : Type 1} → statement M
 answer-text-spec =
@@ -51,5 +59,7 @@ answer-text-spec =
     refused-text-requires
     enum-told
     sheet-text-requires
+    same-length
     returns
+    same-length-2
     returns-2)

@@ -1,7 +1,7 @@
 -- `show::main` is safe: the text is whole, so that its length lies within the buffer, and it is the one due.
 use native.Mathlib.Omega.{arith}
-use lib.ListN.{length-take}
 use borrow.Author.Needs.{needs}
+use Rattle.template.proofs.FilledShort.{text-length}
 use Rattle.show.proofs.main.Statement.{statement}
 use Rattle.show.proofs.main.Tie as tie
 
@@ -22,12 +22,16 @@ read-full-requires : tie.Need-read-full-requires
 read-full-requires c κs = search needs
 
 -- `let end = answer_text(&mut text, &sheet[..length])`
+slice-aggregate-answer-text : tie.Need-slice-aggregate-answer-text
+slice-aggregate-answer-text c = search needs
+
+-- `let end = answer_text(&mut text, &sheet[..length])`
 array-share-prefix-sheet : tie.Need-array-share-prefix-sheet
 array-share-prefix-sheet c = search needs
 
 -- `let end = answer_text(&mut text, &sheet[..length])`
-slice-aggregate-answer-text : tie.Need-slice-aggregate-answer-text
-slice-aggregate-answer-text c = search needs
+slice-aggregate-answer-text-2 : tie.Need-slice-aggregate-answer-text-2
+slice-aggregate-answer-text-2 c = search needs
 
 -- `let end = answer_text(&mut text, &sheet[..length])`
 answer-text-requires : tie.Need-answer-text-requires
@@ -43,13 +47,11 @@ slice-aggregate-put-out c = search needs
 
 -- `put_out(&sheet[..length], &text[..end])`
 array-share-prefix-text : tie.Need-array-share-prefix-text
-array-share-prefix-text c = search needs
+array-share-prefix-text c = let f = c .before .before .answer-text in omega (arith, f .ensures .fits, f .kept .0)
 
 -- `put_out(&sheet[..length], &text[..end])`
 slice-aggregate-put-out-2 : tie.Need-slice-aggregate-put-out-2
-slice-aggregate-put-out-2 c =
-    let a = c .before .before .answer-text in
-    omega (arith, a .ensures .long, a .ensures .fits, length-take (a .result) (a .last .0))
+slice-aggregate-put-out-2 c = text-length (c .before .before .before .answer-text .ensures)
 
 -- `put_out(&sheet[..length], &text[..end])`
 put-out-requires : tie.Need-put-out-requires
@@ -79,8 +81,9 @@ main-spec =
     returns
     slice-aggregate-read-full
     read-full-requires
-    array-share-prefix-sheet
     slice-aggregate-answer-text
+    array-share-prefix-sheet
+    slice-aggregate-answer-text-2
     answer-text-requires
     array-share-prefix-sheet-2
     slice-aggregate-put-out

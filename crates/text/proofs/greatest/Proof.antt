@@ -6,7 +6,7 @@ use lib.ListN.{length, drop, drop-of-length-le}
 use borrow.Author.Needs.{needs}
 use Rattle.theory.specs.Lists as lists
 use Rattle.text.specs.Text.{unblank}
-use Rattle.text.proofs.DecimalLaws.{greatest-turn}
+use Rattle.text.proofs.GreatestNumber.{greatest-turn}
 use Rattle.text.proofs.greatest.Statement.{statement}
 use Rattle.text.proofs.greatest.Tie as tie
 

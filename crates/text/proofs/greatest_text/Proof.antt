@@ -1,41 +1,32 @@
--- `text::greatest_text` meets its contract: a number of 16 bits has few digits, so that there is room for its line.
+-- `text::greatest_text` meets its contract: there is room for a number of 16 bits.
 use Prim.Native.Nat.{_≤_}
 use native.Mathlib.Omega.{arith}
-use lib.ListN.{length, length-append}
+use lib.ListN.{length}
 use borrow.Author.Needs.{needs}
-use Rattle.text.specs.Text.{greatestWord, line, greatestText}
-use Rattle.text.proofs.WholeText.{whole-text}
-use Rattle.text.proofs.DecimalLaws.{decimal-short}
+use Rattle.template.proofs.FilledShort.{whole-text}
+use Rattle.text.specs.Text.{greatestText}
+use Rattle.text.proofs.GreatestNumber.{greatest-few}
+use Rattle.text.proofs.TextShort.{greatest-short}
 use Rattle.text.proofs.greatest_text.Statement.{statement}
 use Rattle.text.proofs.greatest_text.Tie as tie
 
--- `put_line(text, 0, b"greatest ", greatest(annotation) as usize)`
-slice-aggregate-put-line : tie.Need-slice-aggregate-put-line
-slice-aggregate-put-line c = search needs
-
--- `put_line(text, 0, b"greatest ", greatest(annotation) as usize)`
-greatest-requires : tie.Need-greatest-requires
-greatest-requires c κs = search needs
-
--- `put_line(text, 0, b"greatest ", greatest(annotation) as usize)`
-cast-put-line : tie.Need-cast-put-line
-cast-put-line c = search needs
-
 -- the text is short
-short : (c : tie.After-greatest) → length (line greatestWord (c .greatest .result)) ≤ 15
-unfolding line
-short c = simp length-append (omega (arith, decimal-short 4 (c .greatest .result) (omega (arith, c .greatest .ok))))
+short : (c : tie.After-shared-slice-known) → length (greatestText (c .before .before .args .annotation .now)) ≤ 15
+short c = greatest-short _ (greatest-few _ (λ k. omega (arith, c .shared-slice-known .given k)))
 
--- `put_line(text, 0, b"greatest ", greatest(annotation) as usize)`
-put-line-requires : tie.Need-put-line-requires
-put-line-requires c κs = omega (arith, short c)
+-- `put_greatest(text, 0, annotation)`
+put-greatest-requires : tie.Need-put-greatest-requires
+put-greatest-requires c κs = omega (arith, short (c .before), c .before .before .before .pre)
 
--- `put_line(text, 0, b"greatest ", greatest(annotation) as usize)`
+-- `put_greatest(text, 0, annotation)`
+same-length : tie.Need-same-length
+same-length c = search needs
+
+-- `put_greatest(text, 0, annotation)`
 returns : tie.Need-returns
-unfolding greatestText
-returns c = rw (← c .before .greatest .ensures) (whole-text (c .put-line .ensures) (omega arith) (omega (arith, short (c .before))))
+returns c =
+    let g = c .before .before in
+    whole-text (g .put-greatest .ensures) (g .put-greatest .kept .0) (omega (arith, short (g .before .before), g .before .before .before .before .pre))
 
 pub greatest-text-spec : {M : Type 1} → statement M
-greatest-text-spec =
-    tie.close
-    (tie.spec slice-aggregate-put-line greatest-requires cast-put-line put-line-requires returns)
+greatest-text-spec = tie.close (tie.spec put-greatest-requires same-length returns)

@@ -1,9 +1,10 @@
 -- `text::put_row` meets its contract: the head, the next states and a line feed, each behind the one before.
-use native.Mathlib.Omega.{arith}
-use lib.ListN.{length-append}
+use mathlib.Core.List.{List, _++_}
+use Prim.Native.Nat.{ℕ, _+_, _≤_}
+use lib.ListN.{length, getD, drop}
 use borrow.Author.Needs.{needs}
-use Rattle.text.specs.Text.{rowText}
-use Rattle.append.proofs.Appended.{append-more}
+use Rattle.append.proofs.Appended.{room-front, append-more, append-room}
+use Rattle.text.specs.Text.{fields, head, rowText}
 use Rattle.text.proofs.put_row.Statement.{statement}
 use Rattle.text.proofs.put_row.Tie as tie
 
@@ -11,8 +12,20 @@ use Rattle.text.proofs.put_row.Tie as tie
 abbrev entry : tie.After-put-head → tie.Start
 entry c = c .before .before .before .before .before
 
-abbrev head : tie.After-put-next → tie.After-put-head
-head c = c .before .before .before .before
+abbrev front : tie.After-put-next → tie.After-put-head
+front c = c .before .before .before .before
+
+-- the room for all but the line feed
+module _ (b : tie.Start) where
+  abbrev first : List ℕ
+  first = head (b .args .i) (b .args .x .0) (getD (b .args .row .now) 0 0)
+
+  abbrev states : List ℕ
+  states = fields (drop 1 (b .args .row .now))
+
+  room : b .args .at + length (first ++ states) ≤ length (b .args .text .now)
+  unfolding rowText
+  room = room-front _ _ (first ++ states) _ (b .pre .0)
 
 -- `let after_head = put_head(text, at, i, x, row[0])`
 shared-slice-read-put-head : tie.Need-shared-slice-read-put-head
@@ -20,34 +33,33 @@ shared-slice-read-put-head c = search needs
 
 -- `let after_head = put_head(text, at, i, x, row[0])`
 put-head-requires : tie.Need-put-head-requires
-unfolding rowText
-put-head-requires c κs = simp length-append (omega (arith, simp length-append at (c .before .before .before .before .pre .0)))
+put-head-requires c κs = let b = c .before .before .before .before in room-front _ _ (first b) (states b) (room b)
 
 -- `let after_next = put_next(text, after_head, row)`
 put-next-requires : tie.Need-put-next-requires
-unfolding rowText
-put-next-requires c κs =
-    let h = c .before .before .before in
-    omega (arith, simp length-append at (entry h .pre .0), simp length-append at (h .put-head .ensures .ends), h .put-head .kept .0)
+put-next-requires c κs = let h = c .before .before .before in append-room (h .put-head .ensures) (states (entry h)) (room (entry h))
 
--- `put(text, after_next, b'\n')`
-put-requires : tie.Need-put-requires
-unfolding rowText
-put-requires c κs =
-    let n = c .before .before .before in
-    let h = head n in
-    omega (arith, simp length-append at (entry h .pre .0), simp length-append at (h .put-head .ensures .ends), h .put-head .kept .0, n .put-next .ensures .ends, n .put-next .kept .0)
+-- `put_bytes(text, after_next, b"\n")`
+slice-aggregate-put-bytes : tie.Need-slice-aggregate-put-bytes
+slice-aggregate-put-bytes c = search needs
 
--- `put(text, after_next, b'\n')`
+-- `put_bytes(text, after_next, b"\n")`
+put-bytes-requires : tie.Need-put-bytes-requires
+unfolding rowText
+put-bytes-requires c κs =
+    let n = c .before .before .before .before in
+    append-room (append-more (front n .put-head .ensures) (n .put-next .ensures)) _ (entry (front n) .pre .0)
+
+-- `put_bytes(text, after_next, b"\n")`
 same-length : tie.Need-same-length
 same-length c = search needs
 
--- `put(text, after_next, b'\n')`
+-- `put_bytes(text, after_next, b"\n")`
 returns : tie.Need-returns
 unfolding rowText
 returns c =
-    let n = c .before .before .before .before .before .before in
-    append-more (append-more (head n .put-head .ensures) (n .put-next .ensures)) (c .before .before .put .ensures)
+    let n = c .before .before .before .before .before .before .before in
+    append-more (append-more (front n .put-head .ensures) (n .put-next .ensures)) (c .before .before .put-bytes .ensures)
 
 pub put-row-spec : {M : Type 1} → statement M
 put-row-spec =
@@ -56,6 +68,7 @@ put-row-spec =
     shared-slice-read-put-head
     put-head-requires
     put-next-requires
-    put-requires
+    slice-aggregate-put-bytes
+    put-bytes-requires
     same-length
     returns)

@@ -1,16 +1,15 @@
 -- `text::put_tables` meets its contract. The invariant: what was written and the rows of the processes from i on are all.
 use Prim.Native.Nat.{_+_, _-_, _≤_}
 use native.Mathlib.Omega.{arith}
-use lib.ListN.{getD}
 use Rattle.architecture.specs.Struct.{processesOf, processIn, firstIn, processesIn, entriesOf}
 use Rattle.append.proofs.Appending.{Appending, Opens, appending-none, appending-next, appending-length, appending-room, appending-all}
 use Rattle.text.specs.Text.{rowsText, tablesText}
-use Rattle.text.proofs.RowTexts.{tablesFrom, tables-open, tables-end}
+use Rattle.text.proofs.RowTexts.{processesFrom, processes-open, processes-none}
 use Rattle.text.proofs.put_tables.Statement.{statement}
 use Rattle.text.proofs.put_tables.Tie as tie
 
 abbrev Inv-loop : tie.InvT-loop
-Inv-loop text₀ start a tables n at₀ i₀ text at i = (i ≤ n) × Appending text₀ start (tablesText 0 (processesIn a) 0 tables) at text (tablesFrom a tables i)
+Inv-loop text₀ start a tables n at₀ i₀ text at i = (i ≤ n) × Appending text₀ start (tablesText (processesIn a) tables) at text (processesFrom (rowsText tables) a i)
 
 abbrev μ-loop : tie.MeasureT-loop
 μ-loop text₀ start a tables n at₀ i₀ text at i = n - i
@@ -30,8 +29,8 @@ entry c = c .before .before .before
 
 -- the rows of process i are due next
 next : (c : tie.In-loop Inv-loop μ-loop) → let a = entry (c .before) .args .a in let t = entry (c .before) .args .tables .now in let i = c .before .loop .i in
-    Opens (tablesFrom a t i) (rowsText i (processIn a i) (entriesOf (firstIn a i)) t (getD (a .bounds) i 0) 0) (tablesFrom a t (i + 1))
-next c = tables-open (entry (c .before) .args .a) (entry (c .before) .args .tables .now) (c .before .loop .i) (c .loop-test .taken)
+    Opens (processesFrom (rowsText t) a i) (rowsText t i (processIn a i) (entriesOf (firstIn a i))) (processesFrom (rowsText t) a (i + 1))
+next c = processes-open (rowsText (entry (c .before) .args .tables .now)) (entry (c .before) .args .a) (c .before .loop .i) (c .loop-test .taken)
 
 -- `at = put_rows(text, at, a, i, tables)`
 put-rows-requires : tie.Need-put-rows-requires Inv-loop μ-loop
@@ -61,7 +60,7 @@ returns : tie.Need-returns Inv-loop μ-loop
 returns c =
     let l = c .before in
     let a = entry l .args in
-    appending-all (rw (tables-end (a .a) (a .tables .now) (l .loop .i) (omega (arith, c .loop-test .left, l .loop .inv .0))) at (l .loop .inv .1))
+    appending-all (rw (processes-none (rowsText (a .tables .now)) (a .a) (l .loop .i) (omega (arith, c .loop-test .left, l .loop .inv .0))) at (l .loop .inv .1))
 
 pub put-tables-spec : {M : Type 1} → statement M
 put-tables-spec =

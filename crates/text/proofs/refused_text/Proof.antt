@@ -1,40 +1,59 @@
--- `text::refused_text` meets its contract: a number of 32 bits has few digits, so that there is room for its line.
+-- `text::refused_text` meets its contract: there is room for a number of 32 bits.
+use mathlib.Core.List.{[], _∷_}
 use Prim.Native.Nat.{_≤_}
 use native.Mathlib.Omega.{arith}
-use lib.ListN.{length, length-append}
+use lib.ListN.{length}
 use borrow.Author.Needs.{needs}
-use Rattle.text.specs.Text.{refusedWord, line}
-use Rattle.text.proofs.WholeText.{whole-text}
-use Rattle.text.proofs.DecimalLaws.{decimal-short}
+use Rattle.model.specs.Ascii.{ascii}
+use Rattle.template.proofs.FilledShort.{longest, filled-short, whole-text}
+use Rattle.text.specs.Text.{refusedText}
 use Rattle.text.proofs.refused_text.Statement.{statement}
 use Rattle.text.proofs.refused_text.Tie as tie
 
--- `put_line(text, 0, b"refused ", refusal.number() as usize)`
-slice-aggregate-put-line : tie.Need-slice-aggregate-put-line
-slice-aggregate-put-line c = search needs
+-- `put_filled(text, 0, b"refused #\n", &[refusal.number() as usize])`
+slice-aggregate-put-filled : tie.Need-slice-aggregate-put-filled
+slice-aggregate-put-filled c = search needs
 
--- `put_line(text, 0, b"refused ", refusal.number() as usize)`
+-- `put_filled(text, 0, b"refused #\n", &[refusal.number() as usize])`
 number-requires : tie.Need-number-requires
 number-requires c κs = search needs
 
--- `put_line(text, 0, b"refused ", refusal.number() as usize)`
-cast-put-line : tie.Need-cast-put-line
-cast-put-line c = search needs
+-- `put_filled(text, 0, b"refused #\n", &[refusal.number() as usize])`
+cast-t10 : tie.Need-cast-t10
+cast-t10 c = search needs
+
+-- `put_filled(text, 0, b"refused #\n", &[refusal.number() as usize])`
+slice-aggregate-put-filled-2 : tie.Need-slice-aggregate-put-filled-2
+slice-aggregate-put-filled-2 c = search needs
 
 -- the text is short
-short : (c : tie.After-number) → length (line refusedWord (c .number .result)) ≤ 19
-unfolding line
-short c = simp length-append (omega (arith, decimal-short 9 (c .number .result) (omega (arith, c .number .ok))))
+short : (c : tie.After-number) → length (refusedText (c .number .result)) ≤ 19
+unfolding longest
+short c = filled-short 9 (ascii "refused #\n") (c .number .result ∷ []) (omega (arith, c .number .ok), tt)
 
--- `put_line(text, 0, b"refused ", refusal.number() as usize)`
-put-line-requires : tie.Need-put-line-requires
-put-line-requires c κs = omega (arith, short c)
+-- `put_filled(text, 0, b"refused #\n", &[refusal.number() as usize])`
+put-filled-requires : tie.Need-put-filled-requires
+put-filled-requires c κs = omega (arith, short (c .before), c .before .before .before .before .before .pre)
 
--- `put_line(text, 0, b"refused ", refusal.number() as usize)`
+-- `put_filled(text, 0, b"refused #\n", &[refusal.number() as usize])`
+same-length : tie.Need-same-length
+same-length c = search needs
+
+-- `put_filled(text, 0, b"refused #\n", &[refusal.number() as usize])`
 returns : tie.Need-returns
-returns c = rw (← c .before .number .ensures) (whole-text (c .put-line .ensures) (omega arith) (omega (arith, short (c .before))))
+returns c =
+    let f = c .before .before in
+    let n = f .before .before in
+    rw (← n .number .ensures) (whole-text (f .put-filled .ensures) (f .put-filled .kept .0) (omega (arith, short n, n .before .before .before .before .pre)))
 
 pub refused-text-spec : {M : Type 1} → statement M
 refused-text-spec =
     tie.close
-    (tie.spec slice-aggregate-put-line number-requires cast-put-line put-line-requires returns)
+    (tie.spec
+    slice-aggregate-put-filled
+    number-requires
+    cast-t10
+    slice-aggregate-put-filled-2
+    put-filled-requires
+    same-length
+    returns)

@@ -1,0 +1,5 @@
+-- the laws that the proofs of the functions cite
+pub mod Unpacked
+pub mod MovesInTurn
+pub mod DrawingShort
+pub mod DrawingReads

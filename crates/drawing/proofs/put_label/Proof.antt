@@ -1,0 +1,52 @@
+-- `drawing::put_label` meets its contract: `true` where every index leads to y, and the conditions where some do not.
+use mathlib.Core.Path.{sym, _∙_}
+use borrow.Author.Needs.{needs}
+use borrow.Author.Tests.{eq-eqb, ne-eqb}
+use Rattle.model.specs.Mask.{if}
+use Rattle.drawing.specs.Drawing.{labelText}
+use Rattle.drawing.proofs.put_label.Statement.{statement}
+use Rattle.drawing.proofs.put_label.Tie as tie
+
+-- `return put_bytes(text, at, b"true")`
+slice-aggregate-put-bytes : tie.Need-slice-aggregate-put-bytes
+slice-aggregate-put-bytes c = search needs
+
+-- `return put_bytes(text, at, b"true")`
+put-bytes-requires : tie.Need-put-bytes-requires
+unfolding labelText if
+put-bytes-requires c κs = let b = c .before .before .before .before .before in rw (eq-eqb _ _ (sym (b .pre .0) ∙ c .before .before .if1 .taken)) at (b .pre .1)
+
+-- `return put_bytes(text, at, b"true")`
+same-length : tie.Need-same-length
+same-length c = search needs
+
+-- `return put_bytes(text, at, b"true")`
+returns : tie.Need-returns
+unfolding labelText if
+returns c = let b = c .before .before .before .before .before .before .before .before in rw (eq-eqb _ _ (sym (b .pre .0) ∙ c .before .before .before .before .before .if1 .taken)) (c .before .before .put-bytes .ensures)
+
+-- `put_conditions(text, at, mask, y, next)`
+put-conditions-requires : tie.Need-put-conditions-requires
+unfolding labelText if
+put-conditions-requires c κs = let b = c .before .before .before .before in rw (ne-eqb _ _ (λ e. c .before .if1 .left (b .pre .0 ∙ e))) at (b .pre .1)
+
+-- `put_conditions(text, at, mask, y, next)`
+same-length-2 : tie.Need-same-length-2
+same-length-2 c = search needs
+
+-- `put_conditions(text, at, mask, y, next)`
+returns-2 : tie.Need-returns-2
+unfolding labelText if
+returns-2 c = let b = c .before .before .before .before .before .before .before in rw (ne-eqb _ _ (λ e. c .before .before .before .before .if1 .left (b .pre .0 ∙ e))) (c .before .before .put-conditions .ensures)
+
+pub put-label-spec : {M : Type 1} → statement M
+put-label-spec =
+    tie.close
+    (tie.spec
+    slice-aggregate-put-bytes
+    put-bytes-requires
+    same-length
+    returns
+    put-conditions-requires
+    same-length-2
+    returns-2)

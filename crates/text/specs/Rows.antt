@@ -1,0 +1,29 @@
+-- Texts of numbers, of processes and the rows of their tables, and of edges, one behind another. These are definitions.
+use mathlib.Core.List.{List, [], _∷_, _++_}
+use Prim.Native.Nat.{ℕ, zero, suc, _+_}
+use lib.ListN.{take, drop}
+use Rattle.model.specs.Sheet.{Process, Edge}
+use Rattle.model.specs.Compose.{rowLength, processLength, rowAt}
+
+-- n numbers from x on, where `one` has the text of a number
+unfoldable pub eachFrom : (ℕ → List ℕ) → ℕ → ℕ → List ℕ
+eachFrom one zero x = []
+eachFrom one (suc n) x = one x ++ eachFrom one n (suc x)
+
+-- the row of state x, where the entries of its process p begin at `at`
+abbrev pub rowOf : Process → ℕ → List ℕ → ℕ → List ℕ
+rowOf p at c x = take (rowLength p) (drop (rowAt p at x) c)
+
+-- the rows of p, where `one` has the text of a state's row
+abbrev pub eachRow : (ℕ → List ℕ → List ℕ) → Process → ℕ → List ℕ → List ℕ
+eachRow one p at c = eachFrom (λ x. one x (rowOf p at c x)) (p .bound) 0
+
+-- processes from number i on, where `one` has the text of a process whose entries begin at a place, and those of the first begin at `at`
+unfoldable pub eachProcess : (ℕ → Process → ℕ → List ℕ) → ℕ → List Process → ℕ → List ℕ
+eachProcess one i [] at = []
+eachProcess one i (p ∷ ps) at = one i p at ++ eachProcess one (suc i) ps (at + processLength p)
+
+-- edges, where `one` has the text of an edge
+unfoldable pub eachEdge : (Edge → List ℕ) → List Edge → List ℕ
+eachEdge one [] = []
+eachEdge one (e ∷ es) = one e ++ eachEdge one es
