@@ -2,21 +2,19 @@
 use mathlib.Core.Bool.{Bool, true, false}
 use mathlib.Core.List.{List, [], _∷_, _++_}
 use Prim.Native.Nat.{ℕ, suc, _+_, _-_, _*_, _^_, _<_, _≤_}
-use native.Mathlib.Nat.{mul-le-mul}
 use native.Mathlib.Omega.{arith}
 use lib.Dec.{eqb}
 use lib.Pow.{pow-mono}
 use lib.ListN.{length, getD, drop, length-append, length-drop}
 use Rattle.model.specs.Ascii.{ascii}
 use Rattle.model.specs.Mask.{if, bit}
-use Rattle.model.specs.Sheet.{Process, Architecture, Edge, Automaton, Sheet, ProperProcess, ProperProcesses, ProperEdge, ProperArchitecture, ProperAutomaton, ProperSheet}
+use Rattle.model.specs.Sheet.{Process, Edge, Automaton, Sheet, ProperProcess, ProperEdge, ProperAutomaton, ProperSheet}
 use Rattle.template.proofs.FilledShort.{longest, filled-short}
-use Rattle.text.specs.Rows.{rowOf, eachFrom, eachEdge}
+use Rattle.text.specs.Rows.{rowOf}
 use Rattle.text.proofs.RowsShort.{from-short, processes-short, edges-short}
 use Rattle.text.proofs.TextShort.{Bytes, row-bytes, row-short}
 use Rattle.drawing.specs.Drawing as spec
-use Rattle.drawing.specs.Drawing.{stateText, statesText, edgeText, automatonText, conditionText, conditionsText, labelText, moveText, rowText, tableText, tablesText, startText, graphText, sheetText, bookText}
-use Rattle.drawing.specs.Unpack.{unpack}
+use Rattle.drawing.specs.Drawing.{stateText, edgeText, automatonText, conditionText, conditionsText, labelText, moveText, rowText, tableText, startText, sheetText, bookText}
 use Rattle.drawing.proofs.Unpacked.{unpack-le}
 
 -- ---- the automaton

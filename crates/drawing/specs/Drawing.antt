@@ -1,7 +1,7 @@
 -- What the drawing program prints, as bytes: a sheet, and with a book its tables, as one graph for Graphviz.
 use mathlib.Core.Bool.{Bool}
 use mathlib.Core.List.{List, [], _∷_, _++_}
-use Prim.Native.Nat.{ℕ, zero, suc, _-_}
+use Prim.Native.Nat.{ℕ, suc, _-_}
 use lib.Dec.{eqb}
 use lib.ListN.{length, getD, drop}
 use Rattle.theory.specs.Lists.{filter}

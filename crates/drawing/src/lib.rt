@@ -3,7 +3,7 @@ ghost use mathlib.Core.Path.{_≡_};
 ghost use mathlib.Core.List.{[]};
 ghost use Prim.Native.Nat.{_+_, _%_, _<_, _≤_};
 ghost use lib.Dec.{eqb};
-ghost use lib.ListN.{length, getD};
+ghost use lib.ListN.{length};
 ghost use Rattle.model.specs.Mask.{if};
 ghost use Rattle.model.specs.Choice.{entries as entriesOf};
 ghost use Rattle.architecture.specs.Struct.{IsProper, architectureOf, processIn, processesIn, firstIn, entriesOf as startOf};

@@ -5,7 +5,7 @@ use lib.Dec.{eqb}
 use lib.ListN.{length}
 use Rattle.model.specs.Ascii.{ascii}
 use Rattle.model.specs.Mask.{if, count}
-use Rattle.model.specs.Sheet.{Process, Architecture, Edge, Automaton, Sheet}
+use Rattle.model.specs.Sheet.{Process, Architecture, Edge, Sheet}
 use Rattle.model.specs.Compose.{T}
 use Rattle.model.specs.Choice.{Entry, output, next, entries}
 use Rattle.template.specs.Template.{filled}

@@ -1,5 +1,5 @@
-// Shows what a sheet says, a line for each record and then the counts, or `refused` and the number.
-// The sheet is in the file that its first argument names, or on standard input without one or with `-`.
+// Shows what the sheet in a file or on standard input says, a line for each record and then the counts; or `refused` and the number, with the cause on
+// standard error.
 ghost use mathlib.Core.Path.{_≡_};
 ghost use Prim.Native.Nat.{_≤_};
 ghost use lib.ListN.{length};
@@ -34,15 +34,24 @@ fn put_out(sheet: &[u8], text: &[u8])
     io::write_all(STDOUT_FILENO, text);
 }
 
+// The answer for the bytes of a sheet file, and the cause of a refusal.
+fn answer(sheet: &[u8]) {
+    let mut text = [0u8; 8192];
+    let end = answer_text(&mut text, sheet);
+    put_out(sheet, &text[..end]);
+    cause::explain_sheet(sheet);
+}
+
 fn main() {
+    if os::arg_count() > 2 {
+        input::usage(b"show [SHEET]");
+        return;
+    }
     let file = input::open(1);
     if file < 0 {
         return;
     }
     let mut sheet = [0u8; ROOM];
     let length = io::read_full(file, &mut sheet);
-    let mut text = [0u8; 8192];
-    let end = answer_text(&mut text, &sheet[..length]);
-    put_out(&sheet[..length], &text[..end]);
-    cause::explain_sheet(&sheet[..length]);
+    answer(&sheet[..length]);
 }

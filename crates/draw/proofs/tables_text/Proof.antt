@@ -6,7 +6,6 @@ use Rattle.model.specs.Choice.{entries}
 use Rattle.model.proofs.FitsTest.{fits-length}
 use Rattle.architecture.specs.Struct.{architectureOf}
 use Rattle.sheet.specs.Struct.{sheetOf}
-use Rattle.sheet.proofs.AnswersOfReading.{architecture-proper}
 use Rattle.judging.proofs.BookGivesChoice.{Chose, was-refused, was-read}
 use Rattle.draw.proofs.BookDrawn.{drawn-refused, drawn-tables}
 use Rattle.draw.proofs.tables_text.Statement.{statement}

@@ -2,7 +2,7 @@
 use mathlib.Core.List.{List, _++_}
 use Prim.Native.Nat.{ℕ, _+_, _≤_}
 use native.Mathlib.Omega.{arith}
-use lib.ListN.{length, length-append}
+use lib.ListN.{length}
 use borrow.Author.Needs.{needs}
 use Rattle.model.specs.Ascii.{ascii}
 use Rattle.architecture.specs.Struct.{architectureOf, processesIn}
@@ -12,7 +12,7 @@ use Rattle.append.proofs.Appended.{room-front, append-more, append-room}
 use Rattle.append.specs.Appends.{Appends}
 use Rattle.template.proofs.FilledShort.{whole-text}
 use Rattle.text.proofs.TextShort.{Bytes}
-use Rattle.drawing.specs.Drawing.{tablesText, startText, bookText}
+use Rattle.drawing.specs.Drawing.{tablesText, startText}
 use Rattle.drawing.proofs.DrawingShort.{book-short}
 use Rattle.drawing.proofs.book_text.Statement.{statement}
 use Rattle.drawing.proofs.book_text.Tie as tie

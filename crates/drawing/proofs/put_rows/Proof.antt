@@ -1,5 +1,5 @@
 -- `drawing::put_rows` meets its contract. The invariant: what was written and the rows of the states from x on are all.
-use mathlib.Core.Path.{_≡_, ap, ap₂, _∙_}
+use mathlib.Core.Path.{_≡_}
 use mathlib.Core.List.{List}
 use Prim.Native.Nat.{ℕ, _+_, _-_, _<_, _≤_}
 use native.Mathlib.Omega.{arith}

@@ -1,6 +1,5 @@
 -- `drawing::put_states` meets its contract. The invariant: what is left of the mask is that from q on, and what was written and the states from q on are all.
-use mathlib.Core.Path.{_≡_, refl, sym, ap, _∙_}
-use mathlib.Core.Bool.{Bool}
+use mathlib.Core.Path.{_≡_, sym, ap, _∙_}
 use mathlib.Core.List.{List}
 use Prim.Native.Nat.{ℕ, _+_, _-_, _/_, _%_, _^_}
 use native.Mathlib.Numerals.{add-one}

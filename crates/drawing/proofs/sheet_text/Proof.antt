@@ -1,5 +1,4 @@
 -- `drawing::sheet_text` meets its contract: there is room for the text of a proper sheet.
-use mathlib.Core.List.{[], _++_}
 use Prim.Native.Nat.{_≤_}
 use native.Mathlib.Omega.{arith}
 use lib.ListN.{length, length-append}
@@ -7,7 +6,7 @@ use borrow.Author.Needs.{needs}
 use Rattle.sheet.specs.Struct.{sheetOf}
 use Rattle.append.proofs.Appended.{append-none, append-more}
 use Rattle.template.proofs.FilledShort.{whole-text}
-use Rattle.drawing.specs.Drawing.{startText, sheetText}
+use Rattle.drawing.specs.Drawing.{sheetText}
 use Rattle.drawing.proofs.DrawingShort.{sheet-short}
 use Rattle.drawing.proofs.sheet_text.Statement.{statement}
 use Rattle.drawing.proofs.sheet_text.Tie as tie

@@ -17,10 +17,12 @@ Inv-loop mask index m₀ w₀ v₀ weight₀ i₀ m w v weight i = (i ≤ 8) × 
 abbrev μ-loop : tie.MeasureT-loop
 μ-loop mask index m₀ w₀ v₀ weight₀ i₀ m w v weight i = 8 - i
 
+-- `while i < 8`
 loop-holds : tie.Need-loop-holds Inv-loop μ-loop
 unfolding inputs.unpack
 loop-holds c = (omega arith, omega arith, omega (arith, one-mul (unpacked 8 (c .args .mask) (c .args .index))))
 
+-- `let has = lowest(m)`
 lowest-requires : tie.Need-lowest-requires Inv-loop μ-loop
 lowest-requires c κs = search needs
 
@@ -32,32 +34,41 @@ turn c =
     let l = c .before .before .loop in
     unpacked-turn (l .i) (l .m) (l .w) (l .v) (l .weight) _ _ (c .before .loop-test .taken) (c .lowest .ensures) (l .inv .2)
 
+-- `v += weight * (has * (w % 2))`
 mul-v : tie.Need-mul-v Inv-loop μ-loop
 mul-v c = let l = c .before .before .loop in omega (arith, digits-one (l .m) (l .w) _ (c .lowest .ensures))
 
+-- `v += weight * (has * (w % 2))`
 mul-v-2 : tie.Need-mul-v-2 Inv-loop μ-loop
 mul-v-2 c =
     let l = c .before .before .loop in
     omega (arith, pow-mono {i = l .i} {j = 8} (l .inv .0), mul-le-mul (l .inv .1) (digits-one (l .m) (l .w) _ (c .lowest .ensures)), mul-one (2 ^ l .i))
 
+-- `v += weight * (has * (w % 2))`
 add-v : tie.Need-add-v Inv-loop μ-loop
 add-v c = let a = c .before .before .before .args in omega (arith, turn c, unpack-le (a .mask) (a .index))
 
+-- `weight *= 2`
 mul-weight : tie.Need-mul-weight Inv-loop μ-loop
 mul-weight c = let l = c .before .before .loop in omega (arith, pow-mono {i = l .i} {j = 8} (l .inv .0), l .inv .1)
 
+-- `w /= 1 + has`
 add-w : tie.Need-add-w Inv-loop μ-loop
 add-w c = omega (arith, c .lowest .ensures)
 
+-- `w /= 1 + has`
 div-w : tie.Need-div-w Inv-loop μ-loop
 div-w c = omega (arith, c .lowest .ensures)
 
+-- `i += 1`
 add-i : tie.Need-add-i Inv-loop μ-loop
 add-i c = omega arith
 
+-- `while i < 8`
 loop-less : tie.Need-loop-less Inv-loop μ-loop
 loop-less c = omega arith
 
+-- `while i < 8`
 loop-again : tie.Need-loop-again Inv-loop μ-loop
 loop-again c = let l = c .before .before .loop in (omega arith, weight-turn (l .weight) (l .i) (l .inv .1), turn c)
 
@@ -69,9 +80,11 @@ whole c =
     let z : 8 - l .i ≡ 0 = omega arith in
     omega (arith, rw z at (l .inv .2))
 
+-- `v as u8`
 cast-result : tie.Need-cast-result Inv-loop μ-loop
 cast-result c = let a = c .before .before .args in omega (arith, whole c, unpack-le (a .mask) (a .index))
 
+-- `v as u8`
 returns : tie.Need-returns Inv-loop μ-loop
 returns c = whole c
 

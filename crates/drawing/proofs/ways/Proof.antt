@@ -1,5 +1,5 @@
 -- `drawing::ways` meets its contract. The invariant: the ways so far, and those from the index on, are all.
-use mathlib.Core.Path.{_≡_, sym, _∙_}
+use mathlib.Core.Path.{_≡_}
 use mathlib.Core.Logic.{⊎-elim}
 use Prim.Native.Nat.{_+_, _-_, _≤_}
 use native.Mathlib.Omega.{arith}

@@ -1,6 +1,5 @@
 -- `listing::put_counts` meets its contract: each number is the one that its function answers.
 use mathlib.Core.Path.{_≡_, sym, _∙_}
-use native.Mathlib.Omega.{arith}
 use lib.ListN.{length}
 use borrow.Author.Needs.{needs}
 use Rattle.model.specs.Choice.{entries}
