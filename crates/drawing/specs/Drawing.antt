@@ -7,9 +7,9 @@ use lib.ListN.{length, getD, drop}
 use Rattle.theory.specs.Lists.{filter}
 use Rattle.model.specs.Ascii.{ascii}
 use Rattle.model.specs.Mask.{if, bit}
-use Rattle.model.specs.Sheet.{Process, Edge, Automaton, Sheet}
+use Rattle.model.specs.Sheet.{Process, Automaton, Sheet}
 use Rattle.template.specs.Template.{filled}
-use Rattle.text.specs.Rows.{eachFrom, eachRow, eachProcess, eachEdge}
+use Rattle.text.specs.Rows.{eachFrom, eachRow, eachProcess, edgesText}
 use Rattle.drawing.specs.Unpack.{unpack}
 
 -- ---- the automaton: its states are q0, q1, ..
@@ -23,9 +23,9 @@ stateText q rejecting =
 abbrev pub statesText : ℕ → ℕ → List ℕ
 statesText n rejecting = eachFrom (λ q. stateText q (bit rejecting q)) n 0
 
--- an edge, with its on and off variables
-abbrev pub edgeText : Edge → List ℕ
-edgeText e = filled (ascii "        q# -> q# [label=\"?\"];\n") (e .from ∷ e .to ∷ e .on ∷ e .off ∷ [])
+-- an edge, with its on and off variables, by this template
+abbrev pub edgeLine : List ℕ
+edgeLine = ascii "        q# -> q# [label=\"?\"];\n"
 
 -- the front of its cluster: an arrow from a point leads to the initial state
 abbrev pub automatonFront : ℕ → List ℕ
@@ -38,7 +38,7 @@ clusterEnd = ascii "    }\n"
 
 -- its cluster
 unfoldable pub automatonText : Automaton → List ℕ
-automatonText u = automatonFront (u .initial) ++ statesText (u .states) (u .rejecting) ++ eachEdge edgeText (u .edges) ++ clusterEnd
+automatonText u = automatonFront (u .initial) ++ statesText (u .states) (u .rejecting) ++ edgesText edgeLine (u .edges) ++ clusterEnd
 
 -- ---- the tables: the states of process i are pi_0, pi_1, ..
 -- how many of the next states are y

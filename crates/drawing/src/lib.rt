@@ -7,16 +7,14 @@ ghost use lib.ListN.{length};
 ghost use Rattle.model.specs.Mask.{if};
 ghost use Rattle.model.specs.Choice.{entries as entriesOf};
 ghost use Rattle.architecture.specs.Struct.{IsProper, architectureOf, processIn, processesIn, firstIn, entriesOf as startOf};
-ghost use Rattle.automaton.specs.Struct.{Arrays, edgeOf, automatonOf, firstIn as edgesIn};
+ghost use Rattle.automaton.specs.Struct.{Arrays, automatonOf};
 ghost use Rattle.sheet.specs.Struct.{IsProper as Proper, sheetOf};
 ghost use Rattle.append.specs.Appends.{Appends};
 ghost use Rattle.template.specs.Holds.{Holds};
-ghost use Rattle.text.specs.Rows.{eachEdge};
 ghost use Rattle.drawing.specs.Unpack as inputs;
 ghost use Rattle.drawing.specs.Drawing as spec;
 use architecture::Architecture;
 use automaton::Automaton;
-use automaton::Edge;
 use model::AutomatonState;
 use model::ProcessState;
 use sheet::Sheet;
@@ -57,40 +55,6 @@ fn put_states(text: &mut [u8], start: usize, states: u8, rejecting: u16) -> usiz
     at
 }
 
-// An edge.
-fn put_edge(text: &mut [u8], at: usize, edge: Edge) -> usize
-    requires { ⌜ at + length (spec.edgeText (edgeOf edge)) ≤ length (now text) ⌝ }
-    ensures { λ r. ⌜ Appends (now (text .entry)) at (spec.edgeText (edgeOf edge)) r (now (text .exit)) ⌝ }
-{
-    put_filled(
-        text,
-        at,
-        b"        q# -> q# [label=\"?\"];\n",
-        &[
-            edge.from.0 as usize,
-            edge.to.0 as usize,
-            edge.on as usize,
-            edge.off as usize,
-        ],
-    )
-}
-
-// All edges.
-fn put_edges(text: &mut [u8], start: usize, u: Automaton) -> usize
-    requires { ⌜ Arrays u ⌝ }
-    requires { ⌜ start + length (eachEdge spec.edgeText (edgesIn u (u .edges))) ≤ length (now text) ⌝ }
-    ensures { λ r. ⌜ Appends (now (text .entry)) start (eachEdge spec.edgeText (edgesIn u (u .edges))) r (now (text .exit)) ⌝ }
-{
-    let n = u.edges;
-    let mut at = start;
-    let mut i: usize = 0;
-    while i < n {
-        at = put_edge(text, at, u.edge(i));
-        i += 1;
-    }
-    at
-}
-
 // The front of its cluster.
 fn put_automaton_front(text: &mut [u8], at: usize, initial: AutomatonState) -> usize
     requires { ⌜ at + length (spec.automatonFront (initial .0)) ≤ length (now text) ⌝ }
@@ -112,7 +76,7 @@ fn put_automaton(text: &mut [u8], at: usize, u: Automaton) -> usize
 {
     let after_front = put_automaton_front(text, at, u.initial);
     let after_states = put_states(text, after_front, u.states, u.rejecting);
-    let after_edges = put_edges(text, after_states, u);
+    let after_edges = text::put_edges(text, after_states, b"        q# -> q# [label=\"?\"];\n", u);
     put_bytes(text, after_edges, b"    }\n")
 }
 

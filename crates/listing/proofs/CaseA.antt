@@ -9,7 +9,7 @@ use Rattle.model.specs.BenchCases.{sheetA}
 use Rattle.model.specs.Compose.{T, processLength}
 use Rattle.model.specs.Choice.{entries}
 use Rattle.template.specs.Template as template
-use Rattle.text.specs.Rows.{eachProcess, eachEdge}
+use Rattle.text.specs.Rows.{eachProcess, edgesText}
 use Rattle.listing.specs.Listing.{twos, threes, total, showText}
 
 abbrev textA : List ℕ
@@ -28,5 +28,5 @@ textA =
 
 pub shows-a : (readSheet (sheetA 2) then λ s. proper (showText s)) ≡ proper textA
 unfolding readSheet _then_ if count T processLength entries template.digit template.decimalIn template.decimal template.literal template.literals template.behind template.spaced
-    template.variables template.states template.part template.taken template.filled eachProcess eachEdge twos threes total showText
+    template.variables template.states template.part template.taken template.filled eachProcess edgesText twos threes total showText
 shows-a = refl

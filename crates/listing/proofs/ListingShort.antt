@@ -12,8 +12,9 @@ use Rattle.model.specs.Choice.{rows, entries}
 use Rattle.architecture.specs.Struct.{entriesOf}
 use Rattle.architecture.proofs.ProcessesOfArrays.{rows-length, length-few}
 use Rattle.template.proofs.FilledShort.{longest, filled-short}
+use Rattle.text.specs.Rows.{edgeText}
 use Rattle.text.proofs.RowsShort.{processes-short, edges-short}
-use Rattle.listing.specs.Listing.{frontText, processText, statesText, edgeText, twos, threes, total, countsText, showText}
+use Rattle.listing.specs.Listing.{frontText, processText, statesText, edgeLine, twos, threes, total, countsText, showText}
 use Rattle.listing.proofs.Exponents.{twos-few, threes-few, total-few}
 
 -- ---- the records
@@ -34,10 +35,10 @@ module _ {v : ℕ} (few : v ≤ 8) where
       filled-short 2 (ascii "process # reads @ sets @ states #\n") _
       (omega arith, (omega (arith, known, own .inputs-known), (omega (arith, known, own .outputs-known), (omega (arith, own .few-states), tt))))
 
-  edge-short : {states : ℕ} → states ≤ 16 → (e : Edge) → ProperEdge v states e → length (edgeText e) ≤ 103
+  edge-short : {states : ℕ} → states ≤ 16 → (e : Edge) → ProperEdge v states e → length (edgeText edgeLine e) ≤ 103
   unfolding longest
   edge-short h e own =
-      filled-short 2 (ascii "edge # to # on @ off @\n") _
+      filled-short 2 edgeLine _
       (omega (arith, own .from-known), (omega (arith, own .to-known), (omega (arith, known, own .on-known), (omega (arith, known, own .off-known), tt))))
 
 states-short : {v : ℕ} (u : Automaton) → ProperAutomaton v u → length (statesText (u .states) (u .initial) (u .rejecting)) ≤ 119
@@ -80,7 +81,7 @@ show-short s g =
       processes-short (λ i p at. processText i p) 114 4 (process-short (f .few-variables)) 0 (s .architecture .processes) 0 (f .processes-proper) (omega (arith, f .few-processes)),
       f .few-processes,
       states-short (s .automaton) u,
-      edges-short edgeText 103 (edge-short (f .few-variables) (u .few-states)) (s .automaton .edges) (u .edges-proper),
+      edges-short edgeLine 103 (edge-short (f .few-variables) (u .few-states)) (s .automaton .edges) (u .edges-proper),
       u .few-edges,
       counts-short (s .architecture) a,
     ))

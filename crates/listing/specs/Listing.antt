@@ -5,11 +5,11 @@ use lib.Dec.{eqb}
 use lib.ListN.{length}
 use Rattle.model.specs.Ascii.{ascii}
 use Rattle.model.specs.Mask.{if, count}
-use Rattle.model.specs.Sheet.{Process, Architecture, Edge, Sheet}
+use Rattle.model.specs.Sheet.{Process, Architecture, Sheet}
 use Rattle.model.specs.Compose.{T}
 use Rattle.model.specs.Choice.{Entry, output, next, entries}
 use Rattle.template.specs.Template.{filled}
-use Rattle.text.specs.Rows.{eachProcess, eachEdge}
+use Rattle.text.specs.Rows.{eachProcess, edgesText}
 
 -- ---- the records
 -- AR, with these variables, environment variables and root mask: the environment variables are the lowest numbered
@@ -28,9 +28,9 @@ processesText ps = eachProcess (λ i p at. processText i p) 0 ps 0
 abbrev pub statesText : ℕ → ℕ → ℕ → List ℕ
 statesText states initial rejecting = filled (ascii "automaton states # initial # rejecting $\n") (states ∷ initial ∷ rejecting ∷ [])
 
--- ED
-abbrev pub edgeText : Edge → List ℕ
-edgeText e = filled (ascii "edge # to # on @ off @\n") (e .from ∷ e .to ∷ e .on ∷ e .off ∷ [])
+-- every ED, each by this template
+abbrev pub edgeLine : List ℕ
+edgeLine = ascii "edge # to # on @ off @\n"
 
 -- ---- the counts
 -- an entry may have 2 ^ twos times 3 ^ threes values: the exponent of 2
@@ -60,5 +60,5 @@ showText s =
     frontText (a .variables) (a .environment) (a .root)
     ++ processesText (a .processes)
     ++ statesText (u .states) (u .initial) (u .rejecting)
-    ++ eachEdge edgeText (u .edges)
+    ++ edgesText edgeLine (u .edges)
     ++ countsText a

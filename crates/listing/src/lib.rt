@@ -5,15 +5,12 @@ ghost use lib.ListN.{length, getD};
 ghost use Rattle.model.specs.Mask.{count};
 ghost use Rattle.model.specs.Choice.{next, entries as entriesOf};
 ghost use Rattle.architecture.specs.Struct.{IsProper, architectureOf, processIn, processesIn};
-ghost use Rattle.automaton.specs.Struct.{Arrays, edgeOf, firstIn};
 ghost use Rattle.sheet.specs.Struct.{IsProper as Proper, sheetOf};
 ghost use Rattle.append.specs.Appends.{Appends};
 ghost use Rattle.template.specs.Holds.{Holds};
-ghost use Rattle.text.specs.Rows.{eachEdge};
 ghost use Rattle.listing.specs.Listing as spec;
 use architecture::Architecture;
 use automaton::Automaton;
-use automaton::Edge;
 use sheet::Sheet;
 use template::put_filled;
 
@@ -81,40 +78,6 @@ fn put_states(text: &mut [u8], at: usize, u: Automaton) -> usize
             u.rejecting as usize,
         ],
     )
-}
-
-// ED.
-fn put_edge(text: &mut [u8], at: usize, edge: Edge) -> usize
-    requires { ⌜ at + length (spec.edgeText (edgeOf edge)) ≤ length (now text) ⌝ }
-    ensures { λ r. ⌜ Appends (now (text .entry)) at (spec.edgeText (edgeOf edge)) r (now (text .exit)) ⌝ }
-{
-    put_filled(
-        text,
-        at,
-        b"edge # to # on @ off @\n",
-        &[
-            edge.from.0 as usize,
-            edge.to.0 as usize,
-            edge.on as usize,
-            edge.off as usize,
-        ],
-    )
-}
-
-// Every ED.
-fn put_edges(text: &mut [u8], start: usize, u: Automaton) -> usize
-    requires { ⌜ Arrays u ⌝ }
-    requires { ⌜ start + length (eachEdge spec.edgeText (firstIn u (u .edges))) ≤ length (now text) ⌝ }
-    ensures { λ r. ⌜ Appends (now (text .entry)) start (eachEdge spec.edgeText (firstIn u (u .edges))) r (now (text .exit)) ⌝ }
-{
-    let n = u.edges;
-    let mut at = start;
-    let mut i: usize = 0;
-    while i < n {
-        at = put_edge(text, at, u.edge(i));
-        i += 1;
-    }
-    at
 }
 
 // ---- the counts
@@ -215,7 +178,7 @@ fn put_sheet(text: &mut [u8], sheet: Sheet) -> usize
     let after_front = put_front(text, 0, a);
     let after_processes = put_processes(text, after_front, a);
     let after_states = put_states(text, after_processes, u);
-    let after_edges = put_edges(text, after_states, u);
+    let after_edges = text::put_edges(text, after_states, b"edge # to # on @ off @\n", u);
     put_counts(text, after_edges, a)
 }
 

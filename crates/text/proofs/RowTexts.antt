@@ -17,7 +17,7 @@ use Rattle.automaton.specs.declared.Automaton.{Automaton}
 use Rattle.automaton.specs.Struct as edges
 use Rattle.automaton.proofs.Edges.{edges-length, edge-next}
 use Rattle.append.proofs.Appending.{Opens}
-use Rattle.text.specs.Rows.{rowOf, eachFrom, eachProcess, eachEdge}
+use Rattle.text.specs.Rows.{rowOf, eachFrom, eachProcess, edgeText, edgesText}
 use Rattle.text.specs.Text.{field, fields}
 
 -- where the rows begin
@@ -69,19 +69,19 @@ module _ (one : ℕ → Process → ℕ → List ℕ) (a : Architecture) where
   processes-none j e = rw (← e, processes-end (a .inputs) (a .outputs) (a .bounds) (a .processes))
 
 -- ---- edges
-module _ (one : Edge → List ℕ) (u : Automaton) where
+module _ (template : List ℕ) (u : Automaton) where
   -- the text from edge j on
   abbrev pub edgesFrom : ℕ → List ℕ
-  edgesFrom j = eachEdge one (drop j (edges.firstIn u (u .edges)))
+  edgesFrom j = edgesText template (drop j (edges.firstIn u (u .edges)))
 
   -- edge j, and those after it
-  pub edges-open : (j : ℕ) (e : Edge) → e ≡ edges.edgeIn u j → j < u .edges → Opens (edgesFrom j) (one e) (edgesFrom (j + 1))
-  unfolding eachEdge
+  pub edges-open : (j : ℕ) (e : Edge) → e ≡ edges.edgeIn u j → j < u .edges → Opens (edgesFrom j) (edgeText template e) (edgesFrom (j + 1))
+  unfolding edgesText
   edges-open j e is h = record { is = rw (edge-next (u .from) (u .to) (u .on) (u .off) (u .edges) j h, is) }
 
   -- no edge is left
   pub edges-none : (j : ℕ) → u .edges ≡ j → edgesFrom j ≡ []
-  unfolding eachEdge
+  unfolding edgesText
   edges-none j e =
       let es = edges.firstIn u (u .edges) in
       rw (drop-of-length-le es {i = j} (omega (arith, edges-length (u .edges) (u .from) (u .to) (u .on) (u .off))))

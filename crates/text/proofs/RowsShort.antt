@@ -7,7 +7,7 @@ use native.Mathlib.Omega.{arith}
 use lib.ListN.{length, length-append}
 use Rattle.model.specs.Sheet.{Process, Edge, ProperProcess, ProperProcesses, ProperEdge, ProperEdges}
 use Rattle.model.specs.Compose.{processLength}
-use Rattle.text.specs.Rows.{eachFrom, eachProcess, eachEdge}
+use Rattle.text.specs.Rows.{eachFrom, eachProcess, edgeText, edgesText}
 
 module _ (one : ℕ → List ℕ) (m limit : ℕ) (short : (x : ℕ) → x < limit → length (one x) ≤ m) where
   pub from-short : (n x : ℕ) → x + n ≤ limit → length (eachFrom one n x) ≤ n * m
@@ -29,9 +29,9 @@ module _ {v e : ℕ} (one : ℕ → Process → ℕ → List ℕ) (m limit : ℕ
         suc-mul (length ps) m,
       )
 
-module _ {v states : ℕ} (one : Edge → List ℕ) (m : ℕ) (short : (e : Edge) → ProperEdge v states e → length (one e) ≤ m) where
-  pub edges-short : (es : List Edge) → ProperEdges v states es → length (eachEdge one es) ≤ length es * m
-  unfolding eachEdge
+module _ {v states : ℕ} (template : List ℕ) (m : ℕ) (short : (e : Edge) → ProperEdge v states e → length (edgeText template e) ≤ m) where
+  pub edges-short : (es : List Edge) → ProperEdges v states es → length (edgesText template es) ≤ length es * m
+  unfolding edgesText
   edges-short [] g = omega arith
   edges-short (e ∷ es) g =
-      omega (arith, length-append (one e) (eachEdge one es), short e (g e (List·Memᴰ·head refl)), edges-short es (λ q m. g q (List·Memᴰ·tail m)), suc-mul (length es) m)
+      omega (arith, length-append (edgeText template e) (edgesText template es), short e (g e (List·Memᴰ·head refl)), edges-short es (λ q m. g q (List·Memᴰ·tail m)), suc-mul (length es) m)

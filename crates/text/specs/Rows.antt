@@ -4,6 +4,7 @@ use Prim.Native.Nat.{ℕ, zero, suc, _+_}
 use lib.ListN.{take, drop}
 use Rattle.model.specs.Sheet.{Process, Edge}
 use Rattle.model.specs.Compose.{rowLength, processLength, rowAt}
+use Rattle.template.specs.Template.{filled}
 
 -- n numbers from x on, where `one` has the text of a number
 unfoldable pub eachFrom : (ℕ → List ℕ) → ℕ → ℕ → List ℕ
@@ -23,7 +24,11 @@ unfoldable pub eachProcess : (ℕ → Process → ℕ → List ℕ) → ℕ → 
 eachProcess one i [] at = []
 eachProcess one i (p ∷ ps) at = one i p at ++ eachProcess one (suc i) ps (at + processLength p)
 
--- edges, where `one` has the text of an edge
-unfoldable pub eachEdge : (Edge → List ℕ) → List Edge → List ℕ
-eachEdge one [] = []
-eachEdge one (e ∷ es) = one e ++ eachEdge one es
+-- an edge: its states and its masks fill the template
+abbrev pub edgeText : List ℕ → Edge → List ℕ
+edgeText template e = filled template (e .from ∷ e .to ∷ e .on ∷ e .off ∷ [])
+
+-- edges, each by the same template
+unfoldable pub edgesText : List ℕ → List Edge → List ℕ
+edgesText template [] = []
+edgesText template (e ∷ es) = edgeText template e ++ edgesText template es

@@ -6,11 +6,14 @@ ghost use Rattle.theory.specs.Lists.{greatest as greatestOf};
 ghost use Rattle.model.specs.Choice.{entries as entriesOf};
 ghost use Rattle.model.specs.Numbers.{number};
 ghost use Rattle.architecture.specs.Struct.{IsProper, architectureOf, processIn, processesIn, firstIn, entriesOf as startOf};
+ghost use Rattle.automaton.specs.Struct.{Arrays, edgeOf, firstIn as edgesIn};
 ghost use Rattle.append.specs.Appends.{Appends};
 ghost use Rattle.template.specs.Holds.{Holds};
-ghost use Rattle.text.specs.Rows.{rowOf};
+ghost use Rattle.text.specs.Rows.{rowOf, edgeText, edgesText};
 ghost use Rattle.text.specs.Text as spec;
 use architecture::Architecture;
+use automaton::Automaton;
+use automaton::Edge;
 use model::ProcessState;
 use model::Refusal;
 use template::put_bytes;
@@ -102,6 +105,41 @@ fn put_tables(text: &mut [u8], start: usize, a: Architecture, tables: &[u8]) -> 
     let mut i: usize = 0;
     while i < n {
         at = put_rows(text, at, a, i, tables);
+        i += 1;
+    }
+    at
+}
+
+// ---- edges
+// An edge: its states and its masks fill the template.
+fn put_edge(text: &mut [u8], at: usize, template: &[u8], edge: Edge) -> usize
+    requires { ⌜ at + length (edgeText (now template) (edgeOf edge)) ≤ length (now text) ⌝ }
+    ensures { λ r. ⌜ Appends (now (text .entry)) at (edgeText (now (template .entry)) (edgeOf edge)) r (now (text .exit)) ⌝ }
+{
+    put_filled(
+        text,
+        at,
+        template,
+        &[
+            edge.from.0 as usize,
+            edge.to.0 as usize,
+            edge.on as usize,
+            edge.off as usize,
+        ],
+    )
+}
+
+// All edges, each by the same template.
+pub fn put_edges(text: &mut [u8], start: usize, template: &[u8], u: Automaton) -> usize
+    requires { ⌜ Arrays u ⌝ }
+    requires { ⌜ start + length (edgesText (now template) (edgesIn u (u .edges))) ≤ length (now text) ⌝ }
+    ensures { λ r. ⌜ Appends (now (text .entry)) start (edgesText (now (template .entry)) (edgesIn u (u .edges))) r (now (text .exit)) ⌝ }
+{
+    let n = u.edges;
+    let mut at = start;
+    let mut i: usize = 0;
+    while i < n {
+        at = put_edge(text, at, template, u.edge(i));
         i += 1;
     }
     at

@@ -1,19 +1,18 @@
--- `drawing::put_edges` meets its contract. The invariant: what was written and the edges from i on are all.
+-- `text::put_edges` meets its contract. The invariant: what was written and the edges from i on are all.
 use Prim.Native.Nat.{_+_, _-_, _≤_}
 use native.Mathlib.Omega.{arith}
 use Rattle.automaton.specs.Struct.{edgeOf, firstIn}
 use Rattle.append.proofs.Appending.{Appending, Opens, appending-none, appending-next, appending-length, appending-room, appending-all}
-use Rattle.text.specs.Rows.{eachEdge}
+use Rattle.text.specs.Rows.{edgeText, edgesText}
 use Rattle.text.proofs.RowTexts.{edgesFrom, edges-open, edges-none}
-use Rattle.drawing.specs.Drawing.{edgeText}
-use Rattle.drawing.proofs.put_edges.Statement.{statement}
-use Rattle.drawing.proofs.put_edges.Tie as tie
+use Rattle.text.proofs.put_edges.Statement.{statement}
+use Rattle.text.proofs.put_edges.Tie as tie
 
 abbrev Inv-loop : tie.InvT-loop
-Inv-loop text₀ start u n at₀ i₀ text at i = (i ≤ n) × Appending text₀ start (eachEdge edgeText (firstIn u (u .edges))) at text (edgesFrom edgeText u i)
+Inv-loop text₀ start template u n at₀ i₀ text at i = (i ≤ n) × Appending text₀ start (edgesText template (firstIn u (u .edges))) at text (edgesFrom template u i)
 
 abbrev μ-loop : tie.MeasureT-loop
-μ-loop text₀ start u n at₀ i₀ text at i = n - i
+μ-loop text₀ start template u n at₀ i₀ text at i = n - i
 
 -- `while i < n`
 loop-holds : tie.Need-loop-holds Inv-loop μ-loop
@@ -21,9 +20,9 @@ loop-holds c = (omega arith, appending-none _ _ _)
 
 -- the entry of the function
 abbrev entry : tie.At-loop Inv-loop μ-loop → tie.Start Inv-loop μ-loop
-entry c = c .before .before
+entry c = c .before .before .before
 
--- `at = put_edge(text, at, u.edge(i))`
+-- `at = put_edge(text, at, template, u.edge(i))`
 edge-requires : tie.Need-edge-requires Inv-loop μ-loop
 edge-requires c κs = (entry (c .before .before) .pre .0, c .before .loop-test .taken)
 
@@ -32,11 +31,11 @@ abbrev turn : tie.After-edge Inv-loop μ-loop → tie.In-loop Inv-loop μ-loop
 turn c = c .before .before
 
 -- edge i is due next
-next : (c : tie.After-edge Inv-loop μ-loop) → let l = turn c .before in let u = entry l .args .u in let i = l .loop .i in
-    Opens (edgesFrom edgeText u i) (edgeText (edgeOf (c .edge .result))) (edgesFrom edgeText u (i + 1))
-next c = let l = turn c .before in edges-open edgeText (entry l .args .u) (l .loop .i) _ (c .edge .ensures) (turn c .loop-test .taken)
+next : (c : tie.After-edge Inv-loop μ-loop) → let l = turn c .before in let a = entry l .args in let i = l .loop .i in
+    Opens (edgesFrom (a .template .now) (a .u) i) (edgeText (a .template .now) (edgeOf (c .edge .result))) (edgesFrom (a .template .now) (a .u) (i + 1))
+next c = let l = turn c .before in edges-open (entry l .args .template .now) (entry l .args .u) (l .loop .i) _ (c .edge .ensures) (turn c .loop-test .taken)
 
--- `at = put_edge(text, at, u.edge(i))`
+-- `at = put_edge(text, at, template, u.edge(i))`
 put-edge-requires : tie.Need-put-edge-requires Inv-loop μ-loop
 put-edge-requires c κs = let l = turn c .before in appending-room (l .loop .inv .1) (entry l .pre .1) (next c)
 
@@ -66,7 +65,7 @@ same-length c = appending-length (c .before .loop .inv .1) (entry (c .before) .p
 returns : tie.Need-returns Inv-loop μ-loop
 returns c =
     let l = c .before in
-    appending-all (rw (edges-none edgeText (entry l .args .u) (l .loop .i) (omega (arith, c .loop-test .left, l .loop .inv .0))) at (l .loop .inv .1))
+    appending-all (rw (edges-none (entry l .args .template .now) (entry l .args .u) (l .loop .i) (omega (arith, c .loop-test .left, l .loop .inv .0))) at (l .loop .inv .1))
 
 pub put-edges-spec : {M : Type 1} → statement M
 put-edges-spec =
