@@ -156,7 +156,8 @@ fn nth(numbers: &[usize], k: usize) -> usize
     0
 }
 
-// The text for one byte of a template, where n and m are the next numbers.
+// The text for one byte of a template, where n and m are the next numbers: `#` is a number, `%` a mask in hexadecimal, `@` its variables, `$` its
+// automaton states, `?` a condition, and any other byte itself.
 fn put_part(text: &mut [u8], at: usize, byte: u8, n: usize, m: usize) -> usize
     requires { ⌜ at + length (spec.part byte n m) ≤ length (now text) ⌝ }
     ensures { λ r. ⌜ Appends (now (text .entry)) at (spec.part byte n m) r (now (text .exit)) ⌝ }

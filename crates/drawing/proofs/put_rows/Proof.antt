@@ -70,7 +70,8 @@ same-row : (i x m n b d : ℕ) (r s : List ℕ) → m ≡ n → b ≡ d → r �
 same-row i x m n b d r s em eb er = rw (em, eb, er)
 
 -- the row of state x is due next
-next : (c : tie.After-row-of Inv-loop μ-loop) → let l = turn c .before in let a = entry l .args in let x = l .loop .x in let f = textFrom (rowIn (a .a) (a .i) (a .tables .now)) (p (entry l) .bound) in
+next : (c : tie.After-row-of Inv-loop μ-loop) → let l = turn c .before in let a = entry l .args in let x = l .loop .x in
+    let f = textFrom (rowIn (a .a) (a .i) (a .tables .now)) (p (entry l) .bound) in
     Opens (f x) (rowText (a .i) (l .before .before .inputs-of .result) (l .before .bound-of .result) x (c .row-of .result .now)) (f (x + 1))
 next c =
     let l = turn c .before in

@@ -29,7 +29,9 @@ slice-aggregate-put-filled-2 c = search needs
 
 -- `put_filled(text, at, b"    subgraph cluster_process_# {\n        label=\"process #: reads @, sets @\";\n        p# [shape=point];\n        p# -> p#_0;\n", &[i, i, inputs, outputs, i, i, i])`
 put-filled-requires : tie.Need-put-filled-requires
-put-filled-requires c κs = rw (c .before .before .before .before .inputs-of .ensures, c .before .before .before .outputs-of .ensures) (c .before .before .before .before .before .before .pre .1 .1)
+put-filled-requires c κs =
+    let o = c .before .before .before in
+    rw (o .before .inputs-of .ensures, o .outputs-of .ensures) (o .before .before .before .pre .1 .1)
 
 -- `put_filled(text, at, b"    subgraph cluster_process_# {\n        label=\"process #: reads @, sets @\";\n        p# [shape=point];\n        p# -> p#_0;\n", &[i, i, inputs, outputs, i, i, i])`
 same-length : tie.Need-same-length
@@ -37,7 +39,9 @@ same-length c = search needs
 
 -- `put_filled(text, at, b"    subgraph cluster_process_# {\n        label=\"process #: reads @, sets @\";\n        p# [shape=point];\n        p# -> p#_0;\n", &[i, i, inputs, outputs, i, i, i])`
 returns : tie.Need-returns
-returns c = rw (← c .before .before .before .before .before .before .before .inputs-of .ensures, ← c .before .before .before .before .before .before .outputs-of .ensures) (c .before .before .put-filled .ensures)
+returns c =
+    let o = c .before .before .before .before .before .before in
+    rw (← o .before .inputs-of .ensures, ← o .outputs-of .ensures) (c .before .before .put-filled .ensures)
 
 pub put-table-front-spec : {M : Type 1} → statement M
 put-table-front-spec =

@@ -12,7 +12,8 @@ read-requires : tie.Need-read-requires
 read-requires c κs = search needs
 
 -- the sheet that was read
-sheet : (c : tie.After-read) → let a = c .before .before .before .before .before .args in Proper (a .sheet .now) (sheetOf (c .read .result .sheet)) book₀ annotation₀ (a .book .now) (a .annotation .now)
+sheet : (c : tie.After-read) → let a = c .before .before .before .before .before .args in
+    Proper (a .sheet .now) (sheetOf (c .read .result .sheet)) book₀ annotation₀ (a .book .now) (a .annotation .now)
 sheet c =
     let b = c .before .before .before .before .before in
     found-proper (b .args .sheet .now) _ _ _ _ (c .read .result) (c .read .ensures .0) (b .pre .1)

@@ -62,7 +62,8 @@ row-of-requires : tie.Need-row-of-requires Inv-loop μ-loop
 row-of-requires c κs = let b = entry (c .before .before) in (b .pre .0, ((b .pre .1 .0, state (c .before)), b .pre .1 .1 .0))
 
 -- the row of state x is due next
-next : (c : tie.After-row-of Inv-loop μ-loop) → let a = entry (turn c .before) .args in let x = turn c .before .loop .x in let f = textFrom (rowIn (a .a) (a .i) (a .tables .now)) (p (turn c) .bound) in
+next : (c : tie.After-row-of Inv-loop μ-loop) → let a = entry (turn c .before) .args in let x = turn c .before .loop .x in
+    let f = textFrom (rowIn (a .a) (a .i) (a .tables .now)) (p (turn c) .bound) in
     Opens (f x) (rowText (a .i) x (c .row-of .result .now)) (f (x + 1))
 next c =
     let a = entry (turn c .before) .args in
