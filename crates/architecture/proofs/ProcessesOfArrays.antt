@@ -1,21 +1,22 @@
 -- The processes of three arrays are those that an architecture has, one at a time: what each adds to the entries, the rows and the composed states,
 -- and the bounds that a proper architecture sets.
-use mathlib.Core.Path.{_≡_, refl, sym, ap, ap₂, _∙_, subst}
-use mathlib.Core.Logic.{_⊎_, inl, inr, ⊎-elim}
-use mathlib.Core.List.{List, [], _∷_, _++_, List·Memᴰ, List·Memᴰ·head, List·Memᴰ·tail}
+use mathlib.Core.Path.{_≡_, refl, sym, ap, ap₂, _∙_}
+use mathlib.Core.List.{List, [], _∷_, _++_}
 use Prim.Native.Nat.{ℕ, zero, suc, _+_, _-_, _*_, _^_, _<_, _≤_}
 use native.Mathlib.Numerals.{add-one}
-use native.Mathlib.Nat.{le-refl, not-suc-le-zero, mul-le-mul, suc-mul, mul-le-mul-right, mul-comm, pow-suc, pow-le-pow-right}
+use native.Mathlib.Nat.{mul-le-mul, suc-mul, mul-le-mul-right, mul-comm, pow-suc, pow-le-pow-right}
 use native.Mathlib.Omega.{arith}
 use lib.Pow.{pow-mono}
-use lib.ListN.{length, getD, drop, set, length-append, drop-of-length-le, List·getD-append}
-use lib.Seq.{drop-cons, getD-at, getD-set-same, getD-set-other}
+use lib.ListN.{length, getD, drop, set, length-append}
+use lib.Seq.{getD-set-same, getD-set-other}
+use Rattle.theory.proofs.ListLaws.{Grows, grown-length, grown-at, grown-has, grown-next, grown-end, grown-same}
 use Rattle.model.specs.Mask.{count}
 use Rattle.model.specs.Sheet.{Process, composedStates, ProperProcess}
 use Rattle.model.specs.Compose.{rowLength, processLength, rowAt}
 use Rattle.model.specs.Choice.{row, times, rows, entries}
 use Rattle.model.proofs.FitsTest.{row-length}
 use Rattle.model.proofs.ComposedNumbers.{times-length}
+use Rattle.model.proofs.EntriesBound.{row-few}
 use Rattle.architecture.specs.declared.Architecture.{Architecture}
 use Rattle.architecture.specs.Struct.{processOf, processesOf, processIn, firstIn, processesIn, architectureOf, IsProper, entriesOf}
 
@@ -32,13 +33,8 @@ unfolding entriesOf
 entries-snoc [] p = omega arith
 entries-snoc (q ∷ ps) p = omega (arith, entries-snoc ps p)
 
--- an output mask, and a next state for each of at most 16 combinations
-pub row-few : (p : Process) → count (p .inputs) ≤ 4 → rowLength p ≤ 17
-unfolding rowLength
-row-few p h = omega (arith, pow-mono {i = count (p .inputs)} {j = 4} h)
-
 -- at most 4 rows
-pub length-few : (p : Process) → count (p .inputs) ≤ 4 → p .bound ≤ 4 → processLength p ≤ 68
+length-few : (p : Process) → count (p .inputs) ≤ 4 → p .bound ≤ 4 → processLength p ≤ 68
 unfolding processLength
 length-few p hi hb = mul-le-mul hb (row-few p hi)
 
@@ -51,59 +47,45 @@ pub row-pos : (p : Process) → 0 < rowLength p
 unfolding rowLength
 row-pos p = omega arith
 
--- before the last, or the last
-pub last? : (j n : ℕ) → j < suc n → (j < n) ⊎ (j ≡ n)
-last? j zero h = inr (omega arith)
-last? zero (suc n) h = inl (omega arith)
-last? (suc j) (suc n) h = ⊎-elim (λ l. inl (omega arith)) (λ e. inr (ap suc e)) (last? j n (omega arith))
+-- ---- the processes of three arrays
+processes-grow : (i o b : List ℕ) → Grows (processOf i o b) (λ n. processesOf n i o b)
+unfolding processesOf
+processes-grow i o b = record { none = refl; more = λ n. refl }
 
 pub processes-length : (n : ℕ) (i o b : List ℕ) → length (processesOf n i o b) ≡ n
-unfolding processesOf
-processes-length zero i o b = refl
-processes-length (suc n) i o b = simp length-append (omega (arith, processes-length n i o b))
+processes-length n i o b = grown-length (processes-grow i o b) n
 
--- ---- the processes of three arrays
 module _ (i o b : List ℕ) where
-  noProcess : Process
-  noProcess = record { inputs = 0; outputs = 0; bound = 0 }
-
   -- process j of the list is that of entry j
   pub processes-at : (n j : ℕ) (d : Process) → j < n → getD (processesOf n i o b) j d ≡ processOf i o b j
-  unfolding processesOf
-  processes-at zero j d h = absurd (not-suc-le-zero h)
-  processes-at (suc n) j d h = ⊎-elim
-      (λ l. List·getD-append (processesOf n i o b) (processOf i o b n ∷ []) d j (omega (arith, processes-length n i o b)) ∙ processes-at n j d l)
-      (λ e. getD-at (processesOf n i o b) (processOf i o b n) [] d j (processes-length n i o b ∙ sym e) ∙ ap (processOf i o b) (sym e))
-      (last? j n h)
+  processes-at = grown-at (processes-grow i o b)
 
   -- from j on, and from j + 1 on
   pub process-next : (n j : ℕ) → j < n → drop j (processesOf n i o b) ≡ processOf i o b j ∷ drop (j + 1) (processesOf n i o b)
-  process-next n j h =
-      let ps = processesOf n i o b in
-      rw (add-one j)
-      (drop-cons ps j noProcess (omega (arith, processes-length n i o b)) ∙ ap (λ (p : Process). p ∷ drop (suc j) ps) (processes-at n j noProcess h))
+  process-next = grown-next (processes-grow i o b)
 
   pub processes-end : (n : ℕ) → drop n (processesOf n i o b) ≡ []
-  processes-end n = drop-of-length-le (processesOf n i o b) {i = n} (omega (arith, processes-length n i o b))
+  processes-end = grown-end (processes-grow i o b)
 
--- ---- a store at n leaves the entries before it
-module _ (n : ℕ) (i o b : List ℕ) (x y z : ℕ) where
-  processes-before : (k : ℕ) → k ≤ n → processesOf k (set i n x) (set o n y) (set b n z) ≡ processesOf k i o b
-  unfolding processesOf
-  processes-before zero h = refl
-  processes-before (suc k) h =
-      let ne : k ≡ n → ⊥ = λ e. omega arith in
-      rw (processes-before k (omega arith), getD-set-other i n k x 0 ne, getD-set-other o n k y 0 ne, getD-set-other b n k z 0 ne)
-
-  pub processes-more : n < length i → n < length o → n < length b
-      → processesOf (n + 1) (set i n x) (set o n y) (set b n z) ≡ processesOf n i o b ++ (record { inputs = x; outputs = y; bound = z } ∷ [])
-  unfolding processesOf
-  processes-more hi ho hb =
-      rw (add-one n, processes-before n (le-refl n), getD-set-same i n x 0 hi, getD-set-same o n y 0 ho, getD-set-same b n z 0 hb)
+-- a store at n leaves the entries before it
+pub processes-more : (n : ℕ) (i o b : List ℕ) (x y z : ℕ) → n < length i → n < length o → n < length b
+    → processesOf (n + 1) (set i n x) (set o n y) (set b n z) ≡ processesOf n i o b ++ (record { inputs = x; outputs = y; bound = z } ∷ [])
+unfolding processesOf
+processes-more n i o b x y z hi ho hb =
+    rw (
+      add-one n,
+      grown-same (processes-grow (set i n x) (set o n y) (set b n z)) (processes-grow i o b) n before,
+      getD-set-same i n x 0 hi,
+      getD-set-same o n y 0 ho,
+      getD-set-same b n z 0 hb,
+    )
+  where
+    before : (k : ℕ) → k < n → processOf (set i n x) (set o n y) (set b n z) k ≡ processOf i o b k
+    before k h = let ne : k ≡ n → ⊥ = λ e. omega arith in rw (getD-set-other i n k x 0 ne, getD-set-other o n k y 0 ne, getD-set-other b n k z 0 ne)
 
 -- ---- process j's part of what is made of all, from j on
 module _ (i o b : List ℕ) (n j : ℕ) (h : j < n) where
-  pub entries-turn : entriesOf (drop j (processesOf n i o b)) ≡ processLength (processOf i o b j) + entriesOf (drop (j + 1) (processesOf n i o b))
+  entries-turn : entriesOf (drop j (processesOf n i o b)) ≡ processLength (processOf i o b j) + entriesOf (drop (j + 1) (processesOf n i o b))
   unfolding entriesOf
   entries-turn = rw (process-next i o b n j h)
 
@@ -139,11 +121,6 @@ unfolding architectureOf
 count-is a = processes-length (a .processes) (a .inputs) (a .outputs) (a .bounds)
 
 -- ---- what is known of a proper architecture, by the number of a process
-at-mem : (l : List Process) (j : ℕ) (d : Process) → j < length l → List·Memᴰ (getD l j d) l
-at-mem [] j d h = absurd (omega arith)
-at-mem (p ∷ ps) zero d h = List·Memᴰ·head refl
-at-mem (p ∷ ps) (suc j) d h = List·Memᴰ·tail (at-mem ps j d (omega arith))
-
 pub record Facts (a : Architecture) : Type 0 where
   pub few-processes : a .processes ≤ 4
   pub few-environment : a .environment ≤ 4
@@ -157,11 +134,7 @@ pub record Facts (a : Architecture) : Type 0 where
 module _ {a : Architecture} (z : IsProper a) where
   process-proper : (j : ℕ) → j < a .processes → ProperProcess (a .variables) (a .environment) (processIn a j)
   unfolding architectureOf
-  process-proper j h =
-      let d : Process = record { inputs = 0; outputs = 0; bound = 0 } in
-      let inside : j < length (processesIn a) = omega (arith, processes-length (a .processes) (a .inputs) (a .outputs) (a .bounds)) in
-      subst (ProperProcess (a .variables) (a .environment)) (processes-at (a .inputs) (a .outputs) (a .bounds) (a .processes) j d h)
-      (z .proper .front .processes-proper (getD (processesIn a) j d) (at-mem (processesIn a) j d inside))
+  process-proper j h = z .proper .front .processes-proper (processIn a j) (grown-has (processes-grow (a .inputs) (a .outputs) (a .bounds)) (a .processes) j h)
 
   pub facts : Facts a
   unfolding architectureOf
@@ -198,6 +171,27 @@ module _ (a : Architecture) (z : IsProper a) where
 pub entries-are : (a : Architecture) → length (entries (architectureOf a)) ≡ entriesOf (processesIn a)
 unfolding entries architectureOf
 entries-are a = rows-length (processesIn a)
+
+-- where the entries of process j begin at `at`, its row and the rest lie within all entries
+module _ (a : Architecture) (j at : ℕ) (h : j < a .processes) (known : at + entriesOf (drop j (processesIn a)) ≡ entriesOf (processesIn a)) where
+  pub rest-within : at + processLength (processIn a j) + entriesOf (drop (j + 1) (processesIn a)) ≡ entriesOf (processesIn a)
+  rest-within = omega (arith, entries-turn (a .inputs) (a .outputs) (a .bounds) (a .processes) j h)
+
+  pub row-within : (x : ℕ) → x < getD (a .bounds) j 0 → rowAt (processIn a j) at x + rowLength (processIn a j) ≤ entriesOf (processesIn a)
+  row-within x l = omega (arith, rest-within, row-inside (processIn a j) at x l)
+
+  pub at-few : IsProper a → at ≤ 272
+  at-few z = omega (arith, start-few a z (a .processes) (omega arith), facts z .few-processes)
+
+-- the entries of the first j processes, and of the others
+pub starts-at : (a : Architecture) (j : ℕ) → j ≤ a .processes → entriesOf (firstIn a j) + entriesOf (drop j (processesIn a)) ≡ entriesOf (processesIn a)
+unfolding entriesOf processesOf
+starts-at a zero h = omega arith
+starts-at a (suc j) h =
+    let i = a .inputs in
+    let o = a .outputs in
+    let b = a .bounds in
+    omega (arith, starts-at a j (omega arith), rw (add-one j) at (start-next i o b j), rw (add-one j) at (entries-turn i o b (a .processes) j h))
 
 -- ---- products of bounds, each at most 4
 pub fours-turn : (n i : ℕ) → 0 < i → i ≤ n → 4 ^ (n - (i - 1)) ≡ 4 ^ (n - i) * 4

@@ -10,20 +10,20 @@ use Rattle.model.specs.Reading.{refused, _then_}
 use Rattle.model.specs.Book.{readBook}
 use Rattle.model.specs.Numbers.{number}
 use Rattle.judging.proofs.BookGivesChoice.{Chose}
-use Rattle.text.specs.Text.{refusedText}
+use Rattle.text.specs.Text.{refusedText, textOrRefused}
 use Rattle.drawing.specs.Drawing.{bookText}
 use Rattle.drawing.proofs.DrawingReads.{book-text-front}
-use Rattle.draw.specs.Drawn.{answerText, withBook}
+use Rattle.draw.specs.Drawn.{withBook}
 
 module _ (s : Sheet) (book : List ℕ) where
   -- it is refused
-  pub drawn-refused : (r : Refusal) → readBook (s .architecture) book ≡ refused r → answerText (withBook s book) ≡ refusedText (number r)
-  unfolding answerText withBook _then_
+  pub drawn-refused : (r : Refusal) → readBook (s .architecture) book ≡ refused r → textOrRefused (withBook s book) ≡ refusedText (number r)
+  unfolding textOrRefused withBook _then_
   drawn-refused r e = rw e
 
   -- its choice is at the front of the tables
-  pub drawn-tables : (tables : List ℕ) → Chose (s .architecture) book tables → answerText (withBook s book) ≡ bookText s tables
-  unfolding answerText withBook _then_
+  pub drawn-tables : (tables : List ℕ) → Chose (s .architecture) book tables → textOrRefused (withBook s book) ≡ bookText s tables
+  unfolding textOrRefused withBook _then_
   drawn-tables tables h =
       let n = length (entries (s .architecture)) in
       rw (h .is-read) (sym (book-text-front (chosen (s .architecture) tables) (drop n tables) s (h .is-choice)) ∙ ap (bookText s) (take-append-drop n tables))

@@ -11,8 +11,9 @@ use Rattle.model.specs.Compose.{rowLength, rowAt, processLength}
 use Rattle.model.specs.Book.{readBook}
 use Rattle.template.specs.Template as template
 use Rattle.text.specs.Rows.{eachFrom, eachProcess, edgesText}
+use Rattle.text.specs.Text.{textOrRefused}
 use Rattle.drawing.specs.Drawing.{stateText, automatonText, ways, labelText, moveText, rowText, tableText, startText}
-use Rattle.draw.specs.Drawn.{answerText, withBook, drawnWith}
+use Rattle.draw.specs.Drawn.{withBook, drawnWith}
 
 abbrev textA : List ℕ
 textA =
@@ -51,5 +52,5 @@ textA =
 pub draws-a : drawnWith (sheetA 2) bookA ≡ textA
 unfolding readSheet _then_ if bit filter put rowLength rowAt processLength readBook template.digit template.decimalIn template.decimal template.literal template.literals template.behind
     template.spaced template.variables template.condition template.part template.taken template.filled eachFrom eachProcess edgesText stateText automatonText ways labelText moveText rowText
-    tableText startText answerText withBook drawnWith
+    tableText startText textOrRefused withBook drawnWith
 draws-a = refl

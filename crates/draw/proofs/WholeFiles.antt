@@ -8,17 +8,18 @@ use Rattle.model.specs.Reading.{Reading, refused, proper, _then_, readSheet}
 use Rattle.model.proofs.Prefix.{read-prefix}
 use Rattle.model.proofs.ProperSheet.{sheet-proper}
 use Rattle.sizes.proofs.BookFront.{book-front}
+use Rattle.text.specs.Text.{textOrRefused}
 use Rattle.drawing.specs.Drawing.{sheetText}
-use Rattle.draw.specs.Drawn.{answerText, drawn, withBook, drawnWith}
+use Rattle.draw.specs.Drawn.{drawn, withBook, drawnWith}
 
 pub whole-file : (sheet : List ℕ) → drawn (take 418 sheet) ≡ drawn sheet
 unfolding drawn
-whole-file sheet = ap (λ (k : Reading Sheet). answerText (k then λ s. proper (sheetText s))) (read-prefix sheet)
+whole-file sheet = ap (λ (k : Reading Sheet). textOrRefused (k then λ s. proper (sheetText s))) (read-prefix sheet)
 
 pub whole-files : (sheet book : List ℕ) → drawnWith (take 418 sheet) (take 339 book) ≡ drawnWith sheet book
 unfolding drawnWith withBook _then_
-whole-files sheet book = ap (λ (k : Reading Sheet). answerText (k then λ s. withBook s (take 339 book))) (read-prefix sheet) ∙ by (readSheet sheet) refl
+whole-files sheet book = ap (λ (k : Reading Sheet). textOrRefused (k then λ s. withBook s (take 339 book))) (read-prefix sheet) ∙ by (readSheet sheet) refl
   where
-    by : (k : Reading Sheet) → readSheet sheet ≡ k → answerText (k then λ s. withBook s (take 339 book)) ≡ answerText (k then λ s. withBook s book)
+    by : (k : Reading Sheet) → readSheet sheet ≡ k → textOrRefused (k then λ s. withBook s (take 339 book)) ≡ textOrRefused (k then λ s. withBook s book)
     by (refused r) e = refl
     by (proper s) e = rw (book-front (s .architecture) book (sheet-proper sheet s e .architecture))

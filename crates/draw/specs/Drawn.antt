@@ -2,20 +2,14 @@
 use mathlib.Core.List.{List}
 use Prim.Native.Nat.{ℕ}
 use Rattle.model.specs.Sheet.{Sheet}
-use Rattle.model.specs.Reading.{Reading, refused, proper, _then_, readSheet}
+use Rattle.model.specs.Reading.{Reading, proper, _then_, readSheet}
 use Rattle.model.specs.Book.{readBook}
-use Rattle.model.specs.Numbers.{number}
-use Rattle.text.specs.Text.{refusedText}
+use Rattle.text.specs.Text.{textOrRefused}
 use Rattle.drawing.specs.Drawing.{sheetText, bookText}
-
--- the text, or `refused` and the number
-unfoldable pub answerText : Reading (List ℕ) → List ℕ
-answerText (refused r) = refusedText (number r)
-answerText (proper text) = text
 
 -- the text for these bytes of a sheet
 unfoldable pub drawn : List ℕ → List ℕ
-drawn sheet = answerText (readSheet sheet then λ s. proper (sheetText s))
+drawn sheet = textOrRefused (readSheet sheet then λ s. proper (sheetText s))
 
 -- the text of a proper sheet, and these bytes of a book
 unfoldable pub withBook : Sheet → List ℕ → Reading (List ℕ)
@@ -23,4 +17,4 @@ withBook s book = readBook (s .architecture) book then λ c. proper (bookText s 
 
 -- the text for these bytes of a sheet and of a book
 unfoldable pub drawnWith : List ℕ → List ℕ → List ℕ
-drawnWith sheet book = answerText (readSheet sheet then λ s. withBook s book)
+drawnWith sheet book = textOrRefused (readSheet sheet then λ s. withBook s book)

@@ -5,7 +5,8 @@ ghost use Prim.Native.Nat.{_≤_};
 ghost use lib.ListN.{length};
 ghost use Rattle.sheet.specs.Struct.{IsProper, sheetOf};
 ghost use Rattle.template.specs.Holds.{Holds};
-ghost use Rattle.draw.specs.Drawn.{answerText, drawn, withBook, drawnWith};
+ghost use Rattle.text.specs.Text.{textOrRefused};
+ghost use Rattle.draw.specs.Drawn.{drawn, withBook, drawnWith};
 use libc::STDOUT_FILENO;
 use model::Reply;
 use sheet::Sheet;
@@ -37,7 +38,7 @@ fn sheet_text(text: &mut [u8], sheet: &[u8]) -> usize
 fn tables_text(text: &mut [u8], sheet: Sheet, book: &[u8]) -> usize
     requires { ⌜ 65536 ≤ length (now text) ⌝ }
     requires { ⌜ IsProper sheet ⌝ }
-    ensures { λ r. ⌜ Holds (now (text .exit)) r (answerText (withBook (sheetOf sheet) (now (book .entry)))) ⌝ }
+    ensures { λ r. ⌜ Holds (now (text .exit)) r (textOrRefused (withBook (sheetOf sheet) (now (book .entry)))) ⌝ }
 {
     let a = sheet.architecture;
     let reading = book::read_for(a, book);

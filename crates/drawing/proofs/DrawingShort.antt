@@ -8,11 +8,12 @@ use lib.Pow.{pow-mono}
 use lib.ListN.{length, getD, drop, length-append, length-drop}
 use Rattle.model.specs.Ascii.{ascii}
 use Rattle.model.specs.Mask.{if, bit}
-use Rattle.model.specs.Sheet.{Process, Edge, Automaton, Sheet, ProperProcess, ProperEdge, ProperAutomaton, ProperSheet}
+use Rattle.model.specs.SheetFile.{Bytes}
+use Rattle.model.specs.Sheet.{Process, Automaton, Sheet, ProperProcess, ProperAutomaton, ProperSheet}
 use Rattle.template.proofs.FilledShort.{longest, filled-short}
-use Rattle.text.specs.Rows.{rowOf, edgeText}
+use Rattle.text.specs.Rows.{rowOf}
 use Rattle.text.proofs.RowsShort.{from-short, processes-short, edges-short}
-use Rattle.text.proofs.TextShort.{Bytes, row-bytes, row-short}
+use Rattle.text.proofs.TextShort.{row-bytes, row-short}
 use Rattle.drawing.specs.Drawing as spec
 use Rattle.drawing.specs.Drawing.{stateText, edgeLine, automatonText, conditionText, conditionsText, labelText, moveText, rowText, tableText, startText, sheetText, bookText}
 use Rattle.drawing.proofs.Unpacked.{unpack-le}
@@ -23,20 +24,13 @@ unfolding stateText if longest
 state-short q true h = filled-short 2 (ascii "        q# [label=\"#\", shape=doublecircle];\n") _ (h, (h, tt))
 state-short q false h = omega (arith, filled-short 2 (ascii "        q# [label=\"#\"];\n") (q ∷ q ∷ []) (h, (h, tt)))
 
-edge-short : {v states : ℕ} → v ≤ 8 → states ≤ 16 → (e : Edge) → ProperEdge v states e → length (edgeText edgeLine e) ≤ 69
-unfolding longest
-edge-short {v} few h e own =
-    let known : 2 ^ v ≤ 256 = pow-mono {i = v} {j = 8} few in
-    filled-short 2 edgeLine _
-    (omega (arith, own .from-known), (omega (arith, own .to-known), (omega (arith, own .on-known), (omega (arith, own .off-known), tt))))
-
 automaton-short : {v : ℕ} (u : Automaton) → v ≤ 8 → ProperAutomaton v u → length (automatonText u) ≤ 5319
 unfolding automatonText longest
 automaton-short u few g =
     let front = filled-short 2 (ascii "    subgraph cluster_automaton {\n        label=\"automaton (two circles: rejecting)\";\n        q [shape=point];\n        q -> q#;\n")
     (u .initial ∷ []) (omega (arith, g .initial-known, g .few-states), tt) in
     let states = from-short (λ q. stateText q (bit (u .rejecting) q)) 48 16 (λ q h. state-short q (bit (u .rejecting) q) (omega arith)) (u .states) 0 (omega (arith, g .few-states)) in
-    simp length-append (omega (arith, front, states, g .few-states, edges-short edgeLine 69 (edge-short few (g .few-states)) (u .edges) (g .edges-proper), g .few-edges))
+    simp length-append (omega (arith, front, states, g .few-states, edges-short few (g .few-states) edgeLine (u .edges) (g .edges-proper), g .few-edges))
 
 -- ---- the moves of a state
 condition-short : (inputs k : ℕ) → inputs < 256 → length (conditionText inputs k) ≤ 38

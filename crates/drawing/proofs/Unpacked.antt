@@ -1,9 +1,9 @@
 -- Laws of `unpack`: what it gives is among the inputs, one bit after another.
 use mathlib.Core.Path.{_≡_}
-use Prim.Native.Nat.{ℕ, zero, suc, _+_, _-_, _*_, _/_, _%_, _^_, _≤_, _<_}
-use native.Mathlib.Nat.{mod-lt, mul-add, mul-assoc, mul-le-mul, pow-suc}
-use native.Mathlib.Numerals.{add-one}
+use Prim.Native.Nat.{ℕ, zero, suc, _+_, _-_, _*_, _/_, _%_, _≤_, _<_}
+use native.Mathlib.Nat.{mod-lt}
 use native.Mathlib.Omega.{arith}
+use Rattle.theory.proofs.Digits.{digit-turn}
 use Rattle.drawing.specs.Unpack.{unpacked, unpack}
 
 -- ---- one bit
@@ -42,11 +42,4 @@ pub unpacked-turn : (i m w v weight r total : ℕ) → i < 8 → r ≡ m % 2 →
 unfolding unpacked
 unpacked-turn i m w v weight r total h er e =
     let k : 8 - i ≡ suc (8 - (i + 1)) = omega arith in
-    let t : v + weight * (m % 2 * (w % 2) + 2 * unpacked (8 - (i + 1)) (m / 2) (w / (1 + m % 2))) ≡ total = rw k at e in
-    rw er (omega (arith, t, mul-add weight (m % 2 * (w % 2)) (2 * unpacked (8 - (i + 1)) (m / 2) (w / (1 + m % 2))), mul-assoc weight 2 (unpacked (8 - (i + 1)) (m / 2) (w / (1 + m % 2)))))
-
-pub digits-one : (m w r : ℕ) → r ≡ m % 2 → r * (w % 2) ≤ 1
-digits-one m w r e = mul-le-mul {n₂ = 1} {m₂ = 1} (omega arith) (omega arith)
-
-pub weight-turn : (weight i : ℕ) → weight ≤ 2 ^ i → weight * 2 ≤ 2 ^ (i + 1)
-weight-turn weight i h = rw (add-one i, pow-suc 2 i) (omega arith)
+    rw er (digit-turn v weight (m % 2 * (w % 2)) 2 (unpacked (8 - (i + 1)) (m / 2) (w / (1 + m % 2))) total (rw k at e))

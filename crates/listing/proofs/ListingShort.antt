@@ -1,18 +1,14 @@
 -- The text of a proper sheet fits into 8,192 bytes.
-use mathlib.Core.Path.{refl}
-use mathlib.Core.List.{List, [], _∷_, List·Memᴰ·head, List·Memᴰ·tail}
-use Prim.Native.Nat.{ℕ, _-_, _*_, _^_, _<_, _≤_}
+use Prim.Native.Nat.{ℕ, _-_, _^_, _<_, _≤_}
 use native.Mathlib.Omega.{arith}
 use lib.Pow.{pow-mono}
 use lib.ListN.{length, length-append}
 use Rattle.model.specs.Ascii.{ascii}
-use Rattle.model.specs.Sheet.{Process, Architecture, Edge, Automaton, Sheet, ProperProcess, ProperProcesses, ProperEdge, ProperArchitecture, ProperAutomaton, ProperSheet}
+use Rattle.model.specs.Sheet.{Process, Architecture, Automaton, Sheet, ProperProcess, ProperArchitecture, ProperAutomaton, ProperSheet}
 use Rattle.model.specs.Compose.{T}
 use Rattle.model.specs.Choice.{rows, entries}
-use Rattle.architecture.specs.Struct.{entriesOf}
-use Rattle.architecture.proofs.ProcessesOfArrays.{rows-length, length-few}
+use Rattle.model.proofs.EntriesBound.{rows-short}
 use Rattle.template.proofs.FilledShort.{longest, filled-short}
-use Rattle.text.specs.Rows.{edgeText}
 use Rattle.text.proofs.RowsShort.{processes-short, edges-short}
 use Rattle.listing.specs.Listing.{frontText, processText, statesText, edgeLine, twos, threes, total, countsText, showText}
 use Rattle.listing.proofs.Exponents.{twos-few, threes-few, total-few}
@@ -25,21 +21,11 @@ front-short a g =
     let few : 2 ^ a .environment ≤ 16 = pow-mono {i = a .environment} {j = 4} (f .few-environment) in
     filled-short 2 (ascii "variables #\nenvironment @\nroot @\n") _ (omega (arith, f .few-variables), (omega arith, (omega (arith, f .root-known), tt)))
 
-module _ {v : ℕ} (few : v ≤ 8) where
-  known : 2 ^ v ≤ 256
-  known = pow-mono {i = v} {j = 8} few
-
-  process-short : {e : ℕ} (i : ℕ) (p : Process) (at : ℕ) → i < 4 → ProperProcess v e p → length (processText i p) ≤ 114
-  unfolding longest
-  process-short i p at h own =
-      filled-short 2 (ascii "process # reads @ sets @ states #\n") _
-      (omega arith, (omega (arith, known, own .inputs-known), (omega (arith, known, own .outputs-known), (omega (arith, own .few-states), tt))))
-
-  edge-short : {states : ℕ} → states ≤ 16 → (e : Edge) → ProperEdge v states e → length (edgeText edgeLine e) ≤ 103
-  unfolding longest
-  edge-short h e own =
-      filled-short 2 edgeLine _
-      (omega (arith, own .from-known), (omega (arith, own .to-known), (omega (arith, known, own .on-known), (omega (arith, known, own .off-known), tt))))
+process-short : {v e : ℕ} → v ≤ 8 → (i : ℕ) (p : Process) (at : ℕ) → i < 4 → ProperProcess v e p → length (processText i p) ≤ 114
+unfolding longest
+process-short {v} few i p at h own =
+    let known : 2 ^ v ≤ 256 = pow-mono {i = v} {j = 8} few in
+    filled-short 2 (ascii "process # reads @ sets @ states #\n") _ (omega arith, (omega (arith, own .inputs-known), (omega (arith, own .outputs-known), (omega (arith, own .few-states), tt))))
 
 states-short : {v : ℕ} (u : Automaton) → ProperAutomaton v u → length (statesText (u .states) (u .initial) (u .rejecting)) ≤ 119
 unfolding longest
@@ -49,27 +35,20 @@ states-short u g =
     (omega (arith, g .few-states), (omega (arith, g .few-states, g .initial-known), (omega (arith, g .rejecting-known), tt)))
 
 -- ---- the counts
-entries-few : {v e : ℕ} (ps : List Process) → ProperProcesses v e ps → entriesOf ps ≤ 68 * length ps
-unfolding entriesOf
-entries-few [] g = omega arith
-entries-few (p ∷ ps) g =
-    let own = g p (List·Memᴰ·head refl) in
-    omega (arith, length-few p (own .few-inputs) (own .few-states), entries-few ps (λ q m. g q (List·Memᴰ·tail m)))
-
 counts-short : (a : Architecture) → ProperArchitecture a → length (countsText a) ≤ 45
 unfolding longest T entries
 counts-short a g =
     let f = g .front in
     let ps = a .processes in
     let n = f .few-processes in
-    let all : length (rows ps) < 1000 = omega (arith, n, rows-length ps, entries-few ps (f .processes-proper)) in
+    let all : length (rows ps) < 1000 = omega (arith, n, rows-short ps (f .processes-proper)) in
     let two : total twos (rows ps) < 1000 = omega (arith, n, total-few twos ps twos-few (f .few-variables) (f .processes-proper)) in
     let three : total threes (rows ps) < 1000 = omega (arith, n, total-few threes ps threes-few (f .few-variables) (f .processes-proper)) in
     filled-short 2 (ascii "composed #\nentries #\nchoices 2^# 3^#\n") _ (omega (arith, g .few-composed), (all, (two, (three, tt))))
 
 -- ---- the text: at most 4 processes and 64 edges
 pub show-short : (s : Sheet) → ProperSheet s → length (showText s) ≤ 8192
-unfolding showText
+unfolding showText longest
 show-short s g =
     let a = g .architecture in
     let u = g .automaton in
@@ -81,7 +60,7 @@ show-short s g =
       processes-short (λ i p at. processText i p) 114 4 (process-short (f .few-variables)) 0 (s .architecture .processes) 0 (f .processes-proper) (omega (arith, f .few-processes)),
       f .few-processes,
       states-short (s .automaton) u,
-      edges-short edgeLine 103 (edge-short (f .few-variables) (u .few-states)) (s .automaton .edges) (u .edges-proper),
+      edges-short (f .few-variables) (u .few-states) edgeLine (s .automaton .edges) (u .edges-proper),
       u .few-edges,
       counts-short (s .architecture) a,
     ))

@@ -6,23 +6,25 @@ use native.Mathlib.Nat.{mul-le-mul}
 use native.Mathlib.Omega.{arith}
 use lib.ListN.{length, drop, replicate, length-append, length-drop, length-replicate}
 use lib.Pow.{pow-mono}
-use Rattle.model.specs.Sheet.{Process, Architecture, ProperProcess, ProperProcesses, ProperArchitecture}
+use Rattle.model.specs.Mask.{count}
+use Rattle.model.specs.Sheet.{Process, Architecture, ProperProcesses, ProperArchitecture}
 use Rattle.model.specs.Compose.{rowLength}
 use Rattle.model.specs.Choice.{row, times, rows, entries, IsChoice}
 use Rattle.model.specs.Calls.{front, tablesOf}
 use Rattle.model.proofs.FitsTest.{fits-length, row-length}
 use Rattle.model.proofs.ComposedNumbers.{times-length}
 
-pub row-short : {v e : ℕ} (p : Process) → ProperProcess v e p → rowLength p ≤ 17
+-- an output mask, and a next state for each of at most 16 combinations
+pub row-few : (p : Process) → count (p .inputs) ≤ 4 → rowLength p ≤ 17
 unfolding rowLength
-row-short p g = omega (arith, pow-mono (g .few-inputs))
+row-few p h = omega (arith, pow-mono {i = count (p .inputs)} {j = 4} h)
 
-rows-short : {v e : ℕ} (ps : List Process) → ProperProcesses v e ps → length (rows ps) ≤ 68 * length ps
+pub rows-short : {v e : ℕ} (ps : List Process) → ProperProcesses v e ps → length (rows ps) ≤ 68 * length ps
 unfolding rows
 rows-short [] g = omega arith
 rows-short (p ∷ ps) g =
     let own = g p (List·Memᴰ·head refl) in
-    let short : length (row p) ≤ 17 = omega (arith, row-length p, row-short p own) in
+    let short : length (row p) ≤ 17 = omega (arith, row-length p, row-few p (own .few-inputs)) in
     omega (
       arith,
       length-append (times (p .bound) (row p)) (rows ps),

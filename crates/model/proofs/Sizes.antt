@@ -11,7 +11,7 @@ use Rattle.model.specs.Compose.{rowLength}
 use Rattle.model.specs.Book.{due, records, allRecords, form, bookLength}
 use Rattle.model.specs.Demands.{sizes}
 use Rattle.model.proofs.ProperSheet.{sheet-proper, sheet-short}
-use Rattle.model.proofs.EntriesBound.{row-short, choice-short}
+use Rattle.model.proofs.EntriesBound.{row-few, choice-short}
 use Rattle.model.proofs.PartIsRecords.{records-length}
 
 -- a process has at most 4 records of 4 + 17 bytes
@@ -20,7 +20,7 @@ unfolding allRecords
 records-short i [] g = omega arith
 records-short i (p ∷ ps) g =
     let own = g p (List·Memᴰ·head refl) in
-    let short : 4 + rowLength p ≤ 21 = omega (arith, row-short p own) in
+    let short : 4 + rowLength p ≤ 21 = omega (arith, row-few p (own .few-inputs)) in
     omega (
       arith,
       length-append (records i p (p .bound) 0) (allRecords (suc i) ps),

@@ -1,21 +1,20 @@
 -- The texts of numbers, processes and edges, one behind another: which is due next, and what is left behind it; and where the rows are.
 use mathlib.Core.Path.{_≡_}
 use mathlib.Core.List.{List, []}
-use Prim.Native.Nat.{ℕ, zero, suc, _+_, _-_, _<_, _≤_}
+use Prim.Native.Nat.{ℕ, suc, _+_, _-_, _<_, _≤_}
 use native.Mathlib.Numerals.{add-one}
 use native.Mathlib.Nat.{suc-mul}
 use native.Mathlib.Omega.{arith}
-use lib.ListN.{length, getD, take, drop, length-take, length-drop, drop-of-length-le}
+use lib.ListN.{length, getD, take, drop, length-take, length-drop}
 use lib.Seq.{drop-cons}
 use Rattle.model.specs.Sheet.{Process, Edge}
 use Rattle.model.specs.Compose.{rowLength, rowAt}
-use Rattle.model.specs.Choice.{entries}
-use Rattle.architecture.specs.Struct.{processesOf, architectureOf, entriesOf, processIn, firstIn, processesIn}
+use Rattle.architecture.specs.Struct.{entriesOf, processIn, firstIn, processesIn}
 use Rattle.architecture.specs.declared.Architecture.{Architecture}
-use Rattle.architecture.proofs.ProcessesOfArrays.{row-inside, row-pos, entries-are, entries-turn, start-next, process-next, processes-end}
+use Rattle.architecture.proofs.ProcessesOfArrays.{row-pos, start-next, process-next, processes-end}
 use Rattle.automaton.specs.declared.Automaton.{Automaton}
 use Rattle.automaton.specs.Struct as edges
-use Rattle.automaton.proofs.Edges.{edges-length, edge-next}
+use Rattle.automaton.proofs.Edges.{edge-next, edges-end}
 use Rattle.append.proofs.Appending.{Opens}
 use Rattle.text.specs.Rows.{rowOf, eachFrom, eachProcess, edgeText, edgesText}
 use Rattle.text.specs.Text.{field, fields}
@@ -82,28 +81,9 @@ module _ (template : List ℕ) (u : Automaton) where
   -- no edge is left
   pub edges-none : (j : ℕ) → u .edges ≡ j → edgesFrom j ≡ []
   unfolding edgesText
-  edges-none j e =
-      let es = edges.firstIn u (u .edges) in
-      rw (drop-of-length-le es {i = j} (omega (arith, edges-length (u .edges) (u .from) (u .to) (u .on) (u .off))))
+  edges-none j e = rw (← e, edges-end (u .from) (u .to) (u .on) (u .off) (u .edges))
 
--- ---- where a row is
-module _ (a : Architecture) where
-  -- the entries of the first j processes, and of the others
-  starts : (j : ℕ) → j ≤ a .processes → entriesOf (firstIn a j) + entriesOf (drop j (processesIn a)) ≡ entriesOf (processesIn a)
-  unfolding entriesOf processesOf
-  starts zero h = omega arith
-  starts (suc j) h =
-      let i = a .inputs in
-      let o = a .outputs in
-      let b = a .bounds in
-      omega (arith, starts j (omega arith), rw (add-one j) at (start-next i o b j), rw (add-one j) at (entries-turn i o b (a .processes) j h))
-
-  -- it lies within the tables
-  pub row-within : (j x : ℕ) → j < a .processes → x < getD (a .bounds) j 0
-      → rowAt (processIn a j) (entriesOf (firstIn a j)) x + rowLength (processIn a j) ≤ length (entries (architectureOf a))
-  row-within j x h k =
-      omega (arith, row-inside (processIn a j) (entriesOf (firstIn a j)) x k, starts j (omega arith), entries-turn (a .inputs) (a .outputs) (a .bounds) (a .processes) j h, entries-are a)
-
+-- ---- a row
 -- the part that the code cuts out
 pub row-part : (p : Process) (at : ℕ) (c : List ℕ) (x from row : ℕ) → from ≡ rowAt p at x → row ≡ rowLength p → take (from + row - from) (drop from c) ≡ rowOf p at c x
 row-part p at c x from row ef er = let e : from + row - from ≡ rowLength p = omega arith in rw (e, ef)

@@ -1,12 +1,14 @@
 -- How long the texts of numbers, of processes and of edges are together, where each has at most so many bytes.
 use mathlib.Core.Path.{refl}
 use mathlib.Core.List.{List, [], _∷_, List·Memᴰ·head, List·Memᴰ·tail}
-use Prim.Native.Nat.{ℕ, zero, suc, _+_, _*_, _<_, _≤_}
+use Prim.Native.Nat.{ℕ, zero, suc, _+_, _*_, _^_, _<_, _≤_}
 use native.Mathlib.Nat.{suc-mul}
 use native.Mathlib.Omega.{arith}
+use lib.Pow.{pow-mono}
 use lib.ListN.{length, length-append}
 use Rattle.model.specs.Sheet.{Process, Edge, ProperProcess, ProperProcesses, ProperEdge, ProperEdges}
 use Rattle.model.specs.Compose.{processLength}
+use Rattle.template.proofs.FilledShort.{longest, filled-short}
 use Rattle.text.specs.Rows.{eachFrom, eachProcess, edgeText, edgesText}
 
 module _ (one : ℕ → List ℕ) (m limit : ℕ) (short : (x : ℕ) → x < limit → length (one x) ≤ m) where
@@ -29,9 +31,21 @@ module _ {v e : ℕ} (one : ℕ → Process → ℕ → List ℕ) (m limit : ℕ
         suc-mul (length ps) m,
       )
 
-module _ {v states : ℕ} (template : List ℕ) (m : ℕ) (short : (e : Edge) → ProperEdge v states e → length (edgeText template e) ≤ m) where
-  pub edges-short : (es : List Edge) → ProperEdges v states es → length (edgesText template es) ≤ length es * m
+-- an edge's states and masks have at most 3 digits
+module _ {v states : ℕ} (few : v ≤ 8) (known : states ≤ 16) (template : List ℕ) where
+  edge-short : (e : Edge) → ProperEdge v states e → length (edgeText template e) ≤ longest 2 template
+  edge-short e own =
+      let masks : 2 ^ v ≤ 256 = pow-mono {i = v} {j = 8} few in
+      filled-short 2 template _ (omega (arith, own .from-known), (omega (arith, own .to-known), (omega (arith, own .on-known), (omega (arith, own .off-known), tt))))
+
+  pub edges-short : (es : List Edge) → ProperEdges v states es → length (edgesText template es) ≤ length es * longest 2 template
   unfolding edgesText
   edges-short [] g = omega arith
   edges-short (e ∷ es) g =
-      omega (arith, length-append (edgeText template e) (edgesText template es), short e (g e (List·Memᴰ·head refl)), edges-short es (λ q m. g q (List·Memᴰ·tail m)), suc-mul (length es) m)
+      omega (
+        arith,
+        length-append (edgeText template e) (edgesText template es),
+        edge-short e (g e (List·Memᴰ·head refl)),
+        edges-short es (λ q m. g q (List·Memᴰ·tail m)),
+        suc-mul (length es) (longest 2 template),
+      )

@@ -1,35 +1,28 @@
 -- How long the text of a found choice is at most.
 use mathlib.Core.Path.{refl}
 use mathlib.Core.List.{List, [], _∷_, List·Memᴰ·head, List·Memᴰ·tail}
-use Prim.Native.Nat.{ℕ, zero, suc, _+_, _*_, _<_, _≤_}
+use Prim.Native.Nat.{ℕ, suc, _+_, _*_, _<_, _≤_}
 use native.Mathlib.Omega.{arith}
-use lib.ListN.{length, getD, take, drop, length-append, length-take, length-drop}
+use lib.ListN.{length, getD, drop, length-append, length-take, length-drop}
 use lib.Seq.{getD-drop}
 use Rattle.theory.specs.Lists.{greatest}
 use Rattle.model.specs.Ascii.{ascii}
 use Rattle.model.specs.Sheet.{Process, Architecture, ProperProcess, ProperProcesses, ProperArchitecture}
 use Rattle.model.specs.Compose.{rowLength, rowAt}
-use Rattle.architecture.proofs.ProcessesOfArrays.{row-few}
+use Rattle.model.specs.SheetFile.{Bytes}
+use Rattle.model.proofs.Damage.{bytes-take}
+use Rattle.model.proofs.EntriesBound.{row-few}
 use Rattle.template.proofs.FilledShort.{longest, filled-short}
 use Rattle.text.specs.Rows.{rowOf}
 use Rattle.text.specs.Text.{field, fields, head, rowText, rowsText, tablesText, rowCount, unblank, greatestText, textOf}
 use Rattle.text.proofs.RowsShort.{from-short, processes-short}
 
 -- ---- rows of bytes
-abbrev pub Bytes : List ℕ → Type 0
-Bytes l = (k : ℕ) → getD l k 0 < 256
-
-take-bytes : (n : ℕ) (l : List ℕ) → Bytes l → Bytes (take n l)
-take-bytes zero l h k = omega arith
-take-bytes (suc n) [] h k = omega arith
-take-bytes (suc n) (x ∷ xs) h zero = h 0
-take-bytes (suc n) (x ∷ xs) h (suc k) = take-bytes n xs (λ k. h (suc k)) k
-
-drop-bytes : (n : ℕ) (l : List ℕ) → Bytes l → Bytes (drop n l)
-drop-bytes n l h k = rw getD-drop (h (n + k))
+bytes-drop : (b : List ℕ) (n : ℕ) → Bytes b → Bytes (drop n b)
+bytes-drop b n h i = rw getD-drop (h (n + i))
 
 pub row-bytes : (p : Process) (at : ℕ) (c : List ℕ) (x : ℕ) → Bytes c → Bytes (rowOf p at c x)
-row-bytes p at c x h = take-bytes (rowLength p) (drop (rowAt p at x) c) (drop-bytes (rowAt p at x) c h)
+row-bytes p at c x h = bytes-take (drop (rowAt p at x) c) (rowLength p) (bytes-drop c (rowAt p at x) h)
 
 -- a row has at most 17 entries
 pub row-short : (p : Process) (at : ℕ) (c : List ℕ) (x : ℕ) {v e : ℕ} → ProperProcess v e p → length (rowOf p at c x) ≤ 17
@@ -48,7 +41,7 @@ line-short : (i x : ℕ) (row : List ℕ) → i < 1000 → x < 1000 → Bytes ro
 unfolding rowText longest
 line-short i x row hi hx h l =
     let front : length (head i x (getD row 0 0)) ≤ 10 = filled-short 2 (ascii "# # %") (i ∷ x ∷ getD row 0 0 ∷ []) (hi, (hx, (omega (arith, h 0), tt))) in
-    simp length-append (omega (arith, fields-short (drop 1 row) (drop-bytes 1 row h), length-drop 1 row))
+    simp length-append (omega (arith, fields-short (drop 1 row) (bytes-drop row 1 h), length-drop 1 row))
 
 tables-short : {v e : ℕ} (ps : List Process) (c : List ℕ) → ProperProcesses v e ps → length ps ≤ 4 → Bytes c → length (tablesText ps c) ≤ length ps * 300
 tables-short {v} {e} ps c g few h = processes-short (rowsText c) 300 4 one 0 ps 0 g (omega arith)

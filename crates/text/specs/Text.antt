@@ -8,6 +8,8 @@ use Rattle.model.specs.Ascii.{ascii}
 use Rattle.model.specs.Mask.{if}
 use Rattle.model.specs.Sheet.{Process, Architecture}
 use Rattle.model.specs.RunGraph.{blank}
+use Rattle.model.specs.Reading.{Reading, refused, proper}
+use Rattle.model.specs.Numbers.{number}
 use Rattle.template.specs.Template.{filled}
 use Rattle.text.specs.Rows.{eachRow, eachProcess}
 
@@ -73,3 +75,8 @@ properText = ascii "proper\n"
 -- a refusal, by its number
 abbrev pub refusedText : ℕ → List ℕ
 refusedText n = filled (ascii "refused #\n") (n ∷ [])
+
+-- a text, or the refusal in its place
+unfoldable pub textOrRefused : Reading (List ℕ) → List ℕ
+textOrRefused (refused r) = refusedText (number r)
+textOrRefused (proper text) = text

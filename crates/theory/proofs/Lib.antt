@@ -7,6 +7,7 @@ pub mod Simulation
 pub mod AnnotationLaws
 pub mod ValidLaws
 pub mod BitLaws
+pub mod Digits
 pub mod SetLaws
 pub mod DepthFirst
 pub mod LoopLaws

@@ -1,15 +1,15 @@
 -- Lists without repeats, the pigeonhole principle, and the laws of the functions on lists.
-use mathlib.Core.Path.{_≡_, refl, sym, ap, _∙_, subst}
+use mathlib.Core.Path.{_≡_, refl, sym, ap, ap₂, _∙_, subst}
 use mathlib.Core.Bool.{Bool, true, false, _&&_, _||_, or-true, true≢false}
 use mathlib.Core.Logic.{_⊎_, inl, inr, ⊎-elim, _↔_}
-use mathlib.Core.List.{List, [], _∷_, _++_, List·Memᴰ, List·Memᴰ·head, List·Memᴰ·tail, List·Memᴰ·not-nil, List·Memᴰ·cases-cons, List·Memᴰ·append-cases}
+use mathlib.Core.List.{List, [], _∷_, _++_, List·Memᴰ, List·Memᴰ·head, List·Memᴰ·tail, List·Memᴰ·not-nil, List·Memᴰ·cases-cons, List·Memᴰ·append-cases, Memᴰ·append-left, Memᴰ·append-right}
 use Prim.Native.Nat.{ℕ, zero, suc, _+_, _≤_, _<_, max}
 use native.Mathlib.Numerals.{add-one}
 use native.Mathlib.Omega.{arith}
 use native.Mathlib.Decide.{ℕ-discrete, decLe}
 use lib.Dec.{eqb}
-use lib.ListN.{length, getD, take, drop}
-use lib.Seq.{drop-cons, getD-take, length-take-le}
+use lib.ListN.{length, getD, take, drop, length-append, drop-of-length-le, List·getD-append}
+use lib.Seq.{drop-cons, getD-at, getD-take, length-take-le}
 use borrow.Author.Tests.{eqb-true, eq-eqb}
 use Rattle.theory.proofs.Bools.{and-is}
 use Rattle.theory.specs.Lists.{Distinct, none, one-more, Pairwise, empty, before, from, below, one, put, filter, count, member, tab, greatest, all}
@@ -252,3 +252,43 @@ pairwise-append (before {x = x} {xs = xs} k p) o h =
 pub taken-next : (xs : List ℕ) (n j : ℕ) → j < n → n ≤ length xs → drop j (take n xs) ≡ getD xs j 0 ∷ drop (j + 1) (take n xs)
 taken-next xs n j h l =
     rw (add-one j) (drop-cons (take n xs) j 0 (omega (arith, length-take-le n xs l)) ∙ ap (λ (x : ℕ). x ∷ drop (suc j) (take n xs)) (getD-take n xs j 0 h))
+
+-- ---- a list that grows at its end: the list of n has n elements, and element j of it is f j
+pub record Grows {A : Type 0} (f : ℕ → A) (l : ℕ → List A) : Type 0 where
+  pub none : l 0 ≡ []
+  pub more : (n : ℕ) → l (suc n) ≡ l n ++ (f n ∷ [])
+
+module _ {A : Type 0} {f : ℕ → A} {l : ℕ → List A} (g : Grows f l) where
+  pub grown-length : (n : ℕ) → length (l n) ≡ n
+  grown-length zero = ap length (g .none)
+  grown-length (suc n) = ap length (g .more n) ∙ simp length-append (omega (arith, grown-length n))
+
+  -- element j
+  pub grown-at : (n j : ℕ) (d : A) → j < n → getD (l n) j d ≡ f j
+  grown-at zero j d h = absurd (omega arith)
+  grown-at (suc n) j d h = ap (λ (xs : List A). getD xs j d) (g .more n) ∙ by (ℕ-discrete j n) (λ k. grown-at n j d k)
+    where
+      by : Dec (j ≡ n) → (j < n → getD (l n) j d ≡ f j) → getD (l n ++ (f n ∷ [])) j d ≡ f j
+      by (yes e) ih = getD-at (l n) (f n) [] d j (grown-length n ∙ sym e) ∙ ap f (sym e)
+      by (no k) ih = List·getD-append (l n) (f n ∷ []) d j (omega (arith, grown-length n)) ∙ ih (omega arith)
+
+  pub grown-has : (n j : ℕ) → j < n → List·Memᴰ (f j) (l n)
+  grown-has zero j h = absurd (omega arith)
+  grown-has (suc n) j h = rw (g .more n) (by (ℕ-discrete j n) (λ k. grown-has n j k))
+    where
+      by : Dec (j ≡ n) → (j < n → List·Memᴰ (f j) (l n)) → List·Memᴰ (f j) (l n ++ (f n ∷ []))
+      by (yes e) ih = Memᴰ·append-right (l n) (List·Memᴰ·head (ap f e))
+      by (no k) ih = Memᴰ·append-left _ (ih (omega arith))
+
+  -- from j on, and from j + 1 on
+  pub grown-next : (n j : ℕ) → j < n → drop j (l n) ≡ f j ∷ drop (j + 1) (l n)
+  grown-next n j h =
+      rw (add-one j) (drop-cons (l n) j (f j) (omega (arith, grown-length n)) ∙ ap (λ (x : A). x ∷ drop (suc j) (l n)) (grown-at n j (f j) h))
+
+  pub grown-end : (n : ℕ) → drop n (l n) ≡ []
+  grown-end n = drop-of-length-le (l n) {i = n} (omega (arith, grown-length n))
+
+  -- the first n elements decide
+  pub grown-same : {h : ℕ → A} {m : ℕ → List A} → Grows h m → (n : ℕ) → ((k : ℕ) → k < n → f k ≡ h k) → l n ≡ m n
+  grown-same o zero e = g .none ∙ sym (o .none)
+  grown-same o (suc n) e = g .more n ∙ ap₂ (λ (xs : List A) (x : A). xs ++ (x ∷ [])) (grown-same o n (λ k k<n. e k (omega arith))) (e n (omega arith)) ∙ sym (o .more n)

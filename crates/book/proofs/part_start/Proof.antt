@@ -10,7 +10,8 @@ use Rattle.model.specs.Sheet.{Process}
 use Rattle.model.specs.Compose.{rowLength}
 use Rattle.model.specs.Book.{recordsLength, partStart}
 use Rattle.architecture.specs.Struct.{processesIn, processIn}
-use Rattle.architecture.proofs.ProcessesOfArrays.{facts, row-is, row-few, process-next}
+use Rattle.model.proofs.EntriesBound.{row-few}
+use Rattle.architecture.proofs.ProcessesOfArrays.{facts, row-is, process-next}
 use Rattle.book.proofs.part_start.Statement.{statement}
 use Rattle.book.proofs.part_start.Tie as tie
 

@@ -2,7 +2,8 @@
 use borrow.Author.Needs.{needs}
 use Rattle.model.specs.Reading.{_then_}
 use Rattle.sheet.proofs.AnswersOfReading.{read-refused, read-proper, read-is-proper}
-use Rattle.draw.specs.Drawn.{answerText, drawnWith}
+use Rattle.text.specs.Text.{textOrRefused}
+use Rattle.draw.specs.Drawn.{drawnWith}
 use Rattle.draw.proofs.book_text.Statement.{statement}
 use Rattle.draw.proofs.book_text.Tie as tie
 
@@ -34,7 +35,7 @@ same-length c = search needs
 
 -- `match answer`
 returns : tie.Need-returns
-unfolding drawnWith answerText _then_
+unfolding drawnWith textOrRefused _then_
 returns c =
     let r = c .before .before .before .before .before .before .before .read in
     let o = c .before .before .before .before .before .answer .given in

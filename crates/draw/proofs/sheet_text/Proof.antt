@@ -2,7 +2,8 @@
 use borrow.Author.Needs.{needs}
 use Rattle.model.specs.Reading.{_then_}
 use Rattle.sheet.proofs.AnswersOfReading.{read-refused, read-proper, read-is-proper}
-use Rattle.draw.specs.Drawn.{answerText, drawn}
+use Rattle.text.specs.Text.{textOrRefused}
+use Rattle.draw.specs.Drawn.{drawn}
 use Rattle.draw.proofs.sheet_text.Statement.{statement}
 use Rattle.draw.proofs.sheet_text.Tie as tie
 
@@ -34,7 +35,7 @@ same-length c = search needs
 
 -- `match answer`
 returns : tie.Need-returns
-unfolding drawn answerText _then_
+unfolding drawn textOrRefused _then_
 returns c =
     let r = c .before .before .before .before .before .before .before .read in
     let o = c .before .before .before .before .before .answer .given in
@@ -46,7 +47,7 @@ same-length-2 c = search needs
 
 -- `match answer`
 returns-2 : tie.Need-returns-2
-unfolding drawn answerText _then_
+unfolding drawn textOrRefused _then_
 returns-2 c =
     let r = c .before .before .before .before .before .before .before .read in
     rw (read-proper _ (r .result .answer) (r .result .sheet) (r .ensures .0) (c .before .before .before .before .before .enum-told .given .1)) (c .before .before .sheet-text .ensures)

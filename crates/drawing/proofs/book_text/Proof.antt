@@ -5,13 +5,13 @@ use native.Mathlib.Omega.{arith}
 use lib.ListN.{length}
 use borrow.Author.Needs.{needs}
 use Rattle.model.specs.Ascii.{ascii}
+use Rattle.model.specs.SheetFile.{Bytes}
 use Rattle.architecture.specs.Struct.{architectureOf, processesIn}
 use Rattle.sheet.specs.Struct.{sheetOf}
 use Rattle.sheet.proofs.AnswersOfReading.{architecture-proper}
 use Rattle.append.proofs.Appended.{room-front, append-more, append-room}
 use Rattle.append.specs.Appends.{Appends}
 use Rattle.template.proofs.FilledShort.{whole-text}
-use Rattle.text.proofs.TextShort.{Bytes}
 use Rattle.drawing.specs.Drawing.{tablesText, startText}
 use Rattle.drawing.proofs.DrawingShort.{book-short}
 use Rattle.drawing.proofs.book_text.Statement.{statement}

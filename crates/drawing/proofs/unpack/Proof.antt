@@ -5,9 +5,10 @@ use native.Mathlib.Nat.{mul-le-mul, mul-one, one-mul}
 use native.Mathlib.Omega.{arith}
 use lib.Pow.{pow-mono}
 use borrow.Author.Needs.{needs}
+use Rattle.theory.proofs.Digits.{weight-turn, bits-one}
 use Rattle.drawing.specs.Unpack as inputs
 use Rattle.drawing.specs.Unpack.{unpacked}
-use Rattle.drawing.proofs.Unpacked.{unpacked-turn, digits-one, weight-turn, unpack-le}
+use Rattle.drawing.proofs.Unpacked.{unpacked-turn, unpack-le}
 use Rattle.drawing.proofs.unpack.Statement.{statement}
 use Rattle.drawing.proofs.unpack.Tie as tie
 
@@ -34,15 +35,19 @@ turn c =
     let l = c .before .before .loop in
     unpacked-turn (l .i) (l .m) (l .w) (l .v) (l .weight) _ _ (c .before .loop-test .taken) (c .lowest .ensures) (l .inv .2)
 
+-- the bit that is unpacked in this turn
+digit : (c : tie.After-lowest Inv-loop μ-loop) → c .lowest .result * (c .before .before .loop .w % 2) ≤ 1
+digit c = bits-one (omega (arith, c .lowest .ensures)) (omega arith)
+
 -- `v += weight * (has * (w % 2))`
 mul-v : tie.Need-mul-v Inv-loop μ-loop
-mul-v c = let l = c .before .before .loop in omega (arith, digits-one (l .m) (l .w) _ (c .lowest .ensures))
+mul-v c = omega (arith, digit c)
 
 -- `v += weight * (has * (w % 2))`
 mul-v-2 : tie.Need-mul-v-2 Inv-loop μ-loop
 mul-v-2 c =
     let l = c .before .before .loop in
-    omega (arith, pow-mono {i = l .i} {j = 8} (l .inv .0), mul-le-mul (l .inv .1) (digits-one (l .m) (l .w) _ (c .lowest .ensures)), mul-one (2 ^ l .i))
+    omega (arith, pow-mono {i = l .i} {j = 8} (l .inv .0), mul-le-mul (l .inv .1) (digit c), mul-one (2 ^ l .i))
 
 -- `v += weight * (has * (w % 2))`
 add-v : tie.Need-add-v Inv-loop μ-loop
@@ -70,7 +75,7 @@ loop-less c = omega arith
 
 -- `while i < 8`
 loop-again : tie.Need-loop-again Inv-loop μ-loop
-loop-again c = let l = c .before .before .loop in (omega arith, weight-turn (l .weight) (l .i) (l .inv .1), turn c)
+loop-again c = let l = c .before .before .loop in (omega arith, weight-turn (l .weight) (l .i) 1 (omega arith) (l .inv .1), turn c)
 
 -- all is unpacked
 whole : (c : tie.After-loop Inv-loop μ-loop) → c .before .loop .v ≡ inputs.unpack (c .before .before .args .mask) (c .before .before .args .index)

@@ -1,7 +1,9 @@
 -- `show::answer_text` meets its contract: a sheet that is read without a refusal is proper, and either answer has its text.
 use borrow.Author.Needs.{needs}
+use Rattle.model.specs.Reading.{_then_}
 use Rattle.sheet.proofs.AnswersOfReading.{read-refused, read-proper, read-is-proper}
-use Rattle.show.specs.Shown.{answerText, shown}
+use Rattle.text.specs.Text.{textOrRefused}
+use Rattle.show.specs.Shown.{shown}
 use Rattle.show.proofs.answer_text.Statement.{statement}
 use Rattle.show.proofs.answer_text.Tie as tie
 
@@ -33,7 +35,7 @@ same-length c = search needs
 
 -- `match answer`
 returns : tie.Need-returns
-unfolding shown answerText
+unfolding shown textOrRefused _then_
 returns c =
     let r = c .before .before .before .before .before .before .before .read in
     let o = c .before .before .before .before .before .answer .given in
@@ -45,7 +47,7 @@ same-length-2 c = search needs
 
 -- `match answer`
 returns-2 : tie.Need-returns-2
-unfolding shown answerText
+unfolding shown textOrRefused _then_
 returns-2 c =
     let r = c .before .before .before .before .before .before .before .read in
     rw (read-proper _ (r .result .answer) (r .result .sheet) (r .ensures .0) (c .before .before .before .before .before .enum-told .given .1)) (c .before .before .sheet-text .ensures)

@@ -7,8 +7,8 @@ use lib.ListN.{length}
 use borrow.Author.Needs.{needs}
 use Rattle.model.specs.Compose.{rowLength, rowAt}
 use Rattle.architecture.specs.Struct.{processIn, firstIn, entriesOf}
-use Rattle.architecture.proofs.ProcessesOfArrays.{row-is}
-use Rattle.text.proofs.RowTexts.{row-within, row-part, row-long}
+use Rattle.architecture.proofs.ProcessesOfArrays.{row-is, row-within, starts-at, entries-are}
+use Rattle.text.proofs.RowTexts.{row-part, row-long}
 use Rattle.text.proofs.row_of.Statement.{statement}
 use Rattle.text.proofs.row_of.Tie as tie
 
@@ -36,7 +36,11 @@ module _ (c : tie.After-row-length) where
 
   within : let p = processIn (entry .args .a) (entry .args .i) in
       rowAt p (entriesOf (firstIn (entry .args .a) (entry .args .i))) (entry .args .x .0) + rowLength p ≤ length (entry .args .tables .now)
-  within = let b = entry in omega (arith, row-within (b .args .a) (b .args .i) (b .args .x .0) (b .pre .1 .0 .0) (b .pre .1 .0 .1), b .pre .1 .1)
+  within =
+      let a = entry .args .a in
+      let i = entry .args .i in
+      let h = entry .pre .1 .0 in
+      omega (arith, row-within a i (entriesOf (firstIn a i)) (h .0) (starts-at a i (omega arith)) (entry .args .x .0) (h .1), entries-are a, entry .pre .1 .1)
 
   inside : c .before .before .row-at .result + c .row-length .result ≤ length (entry .args .tables .now)
   inside = omega (arith, within, long, c .before .before .row-at .ensures)
