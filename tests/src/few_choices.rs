@@ -1,10 +1,12 @@
 //! Random sheets with so few choices that all of them can be tried.
 
 use crate::choices::choice_count;
-use crate::random_sheets::{self, shapes, Shape};
+use crate::random_sheets::{self, any_shape, shapes, Shape};
 use crate::rejecting_loops;
 use crate::rng::Rng;
-use crate::sheet::{mask_below, variables_of, Edge, Sheet, MOST_STATES};
+use crate::sheet::{
+    mask_below, variables_of, Edge, Sheet, MOST_ENVIRONMENT, MOST_STATES, MOST_VARIABLES,
+};
 
 /// A proper sheet with at most that many choices.
 pub fn sheet(rng: &mut Rng, most: u64) -> Sheet {
@@ -22,8 +24,12 @@ pub fn sheet(rng: &mut Rng, most: u64) -> Sheet {
     sheet
 }
 
-/// The fewer of two drawn, since many outputs leave few states for each.
+/// The fewer of two drawn, since many outputs leave few states for each; or all
+/// variables with the fewest outputs, so that high ones are read.
 fn shape(rng: &mut Rng) -> Shape {
+    if rng.one_in(4) {
+        return any_shape(rng, reads_high_variables);
+    }
     let shapes = shapes();
     let drawn = [*rng.pick(&shapes), *rng.pick(&shapes)];
     let [one, other] = drawn;
@@ -32,6 +38,13 @@ fn shape(rng: &mut Rng) -> Shape {
     } else {
         other
     }
+}
+
+/// The highest variable is some process's output, and so another one's input.
+fn reads_high_variables(shape: &Shape) -> bool {
+    shape.variables == MOST_VARIABLES
+        && shape.environment == MOST_ENVIRONMENT
+        && shape.processes > 1
 }
 
 /// One state or one input less in some process.

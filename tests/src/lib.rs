@@ -14,6 +14,7 @@ pub mod transition_system;
 
 // The inputs.
 pub mod bench_cases;
+pub mod detectors;
 pub mod few_choices;
 pub mod joint_counter;
 pub mod many_choices;
@@ -28,5 +29,6 @@ pub mod single_faults;
 // The library, and what a comparison with it needs.
 pub mod ffi;
 pub mod guarded_buffer;
+pub mod inputs_read;
 pub mod tally;
 pub mod text;

@@ -147,17 +147,40 @@ fn outputs(rng: &mut Rng, shape: Shape) -> Vec<u8> {
     outputs
 }
 
-/// At most four inputs among those allowed; none and four come up often.
+/// At most four inputs among those allowed. None and four come up often, and so
+/// do high variables and masks with gaps.
 fn inputs(rng: &mut Rng, allowed: u8) -> u8 {
     let mut free = variables_of(allowed);
-    rng.shuffle(&mut free);
     let most = free.len().min(MOST_INPUTS as usize);
-    let count = match rng.below(4) {
-        0 => most,
-        1 => 0,
+    let count = match rng.below(8) {
+        0 => 0,
+        1 => return highest(allowed),
+        2 => return lowest(allowed) | highest(allowed),
+        3 => return every_second(rng, free),
+        4 | 5 => most,
         _ => rng.within(0, most),
     };
+    rng.shuffle(&mut free);
     mask_of(&free[..count])
+}
+
+/// The lowest variable of a mask alone, none if it has none.
+fn lowest(mask: u8) -> u8 {
+    mask & mask.wrapping_neg()
+}
+
+/// The highest variable of a mask alone, none if it has none.
+fn highest(mask: u8) -> u8 {
+    lowest(mask.reverse_bits()).reverse_bits()
+}
+
+/// Every second of these variables, counted from either end.
+fn every_second(rng: &mut Rng, mut variables: Vec<u8>) -> u8 {
+    if rng.one_in(2) {
+        variables.reverse();
+    }
+    let spread: Vec<u8> = variables.into_iter().step_by(2).collect();
+    mask_of(&spread)
 }
 
 /// Bounds that keep T within its limit, and often meet it.

@@ -7,10 +7,12 @@ use soclethyme_tests::bench_cases::{
 };
 use soclethyme_tests::book::{layout, LONGEST_BOOK};
 use soclethyme_tests::choices::{self, choice_count, FoundChoice};
+use soclethyme_tests::detectors::{detector, input_masks};
 use soclethyme_tests::fast_enumeration;
 use soclethyme_tests::few_choices;
 use soclethyme_tests::ffi::{self, NEGATIVE, POSITIVE};
 use soclethyme_tests::guarded_buffer::GuardedBuffer;
+use soclethyme_tests::inputs_read::{count_inputs, INPUT_COUNT, READS_ACROSS_GAP, READS_HIGHEST};
 use soclethyme_tests::many_choices::{opening, relay, three_clients};
 use soclethyme_tests::proper_sheet::ProperSheet;
 use soclethyme_tests::random_faults;
@@ -130,6 +132,7 @@ fn count_properties(tally: &mut Tally, searched: &SearchedSheet) {
     tally.count("none of many choices", before.is_none() && many_choices);
     tally.count("not all zeros", before > Some(0));
     tally.count("found late", before >= Some(MANY));
+    count_inputs(tally, sheet);
 }
 
 /// Calls find; the answer and both buffers have to be as expected.
@@ -247,6 +250,9 @@ fn finds_agree_on_few_choices() {
     assert!(all_zeros >= SHEETS / 5);
     tally.assert_often("processes", 1..=MOST_PROCESSES, SHEETS / 10);
     tally.assert_only("processes", 1..=MOST_PROCESSES);
+    tally.assert_often(INPUT_COUNT, 0..=2, 100);
+    tally.assert_often(READS_HIGHEST, [true], 100);
+    tally.assert_often(READS_ACROSS_GAP, [true], 100);
     tally.assert_often("room behind the book, the annotation", 0..4, SHEETS / 20);
     let refusals = [SHORT_BOOK_BUFFER, SHORT_ANNOTATION];
     tally.assert_often("find", refusals, 6 * SHEETS);
@@ -274,6 +280,25 @@ fn finds_agree_on_more_choices() {
     assert_eq!(tally.total("none"), 9);
     assert_eq!(tally.seen("none", true), 7);
     assert_eq!(tally.seen("found late", true), 2);
+}
+
+/// Every mask of inputs that a process can have, with tables that depend on the
+/// place of each: three and four inputs have too many choices for other sheets.
+#[test]
+fn finds_agree_on_every_input_mask() {
+    let mut tally = Tally::default();
+    let mut rng = Rng::new(SEED);
+    for inputs in input_masks() {
+        compare(&mut tally, &mut rng, &SearchedSheet::new(detector(inputs)));
+    }
+    tally.print("input masks searched");
+
+    assert_eq!(tally.seen("none", true), 0);
+    for (inputs, masks) in [1, 7, 21, 35, 35].into_iter().enumerate() {
+        assert_eq!(tally.seen(INPUT_COUNT, inputs), masks);
+    }
+    assert_eq!(tally.seen(READS_HIGHEST, true), 42);
+    tally.assert_often(READS_ACROSS_GAP, [true], 60);
 }
 
 /// The sheet with edges added up to the most, and changed so that every choice

@@ -7,6 +7,7 @@ use soclethyme_tests::bench_cases::{
 };
 use soclethyme_tests::ffi::{self, finding_number, NEGATIVE, POSITIVE};
 use soclethyme_tests::guarded_buffer::GuardedBuffer;
+use soclethyme_tests::inputs_read::{count_inputs, INPUT_COUNT, READS_ACROSS_GAP, READS_HIGHEST};
 use soclethyme_tests::joint_counter::{JointCounter, LONGEST_COUNTER};
 use soclethyme_tests::proper_sheet::{ProperSheet, SheetAndBook};
 use soclethyme_tests::random_annotations;
@@ -19,7 +20,7 @@ use soclethyme_tests::refusal::{
 use soclethyme_tests::rejecting_loops;
 use soclethyme_tests::rng::Rng;
 use soclethyme_tests::run_graph::{greatest_number, RunGraph, BLANK};
-use soclethyme_tests::sheet::{Edge, Sheet, MOST_VERTICES};
+use soclethyme_tests::sheet::{read_sheet, Edge, Sheet, MOST_INPUTS, MOST_VERTICES};
 use soclethyme_tests::single_faults;
 use soclethyme_tests::tally::Tally;
 use soclethyme_tests::text::{hex, run_lengths};
@@ -91,6 +92,8 @@ fn count_properties(tally: &mut Tally, graph: &BookGraph) {
     tally.count("vertices", graph.vertices());
     if let Some(annotation) = &graph.annotation {
         tally.count("greatest number", greatest_number(annotation));
+        let sheet = read_sheet(&graph.sheet).expect("a proper sheet");
+        count_inputs(tally, &sheet);
     }
 }
 
@@ -329,6 +332,10 @@ fn verdicts_agree_on_generated_books() {
     assert!(tally.total("annotate") >= 100_000);
     tally.assert_often("rejecting loop", [false, true], 1_000);
     assert_eq!(tally.greatest("vertices"), Some(MOST_VERTICES as u64));
+    tally.assert_often(INPUT_COUNT, 0..=MOST_INPUTS, 100);
+    tally.assert_only(INPUT_COUNT, 0..=MOST_INPUTS);
+    tally.assert_often(READS_HIGHEST, [true], 100);
+    tally.assert_often(READS_ACROSS_GAP, [true], 100);
     assert_answers(&tally, "judge");
     assert_answers(&tally, "annotate");
 }

@@ -14,10 +14,11 @@ use soclethyme_tests::joint_counter::JointCounter;
 use soclethyme_tests::many_choices::{opening, relay, three_clients};
 use soclethyme_tests::proper_sheet::{ProperSheet, SheetAndBook};
 use soclethyme_tests::random_books;
+use soclethyme_tests::random_sheets;
 use soclethyme_tests::rejecting_loops;
 use soclethyme_tests::rng::Rng;
 use soclethyme_tests::run_graph::{self, BLANK};
-use soclethyme_tests::sheet::{Sheet, MOST_EDGES, MOST_VERTICES};
+use soclethyme_tests::sheet::{Process, Sheet, MOST_EDGES, MOST_VERTICES};
 
 const SEED: u64 = 0x5EED_0004;
 
@@ -38,13 +39,17 @@ fn random_book(rng: &mut Rng) -> SheetAndBook {
         rejecting_loops::exclude_rejecting_loops(rng, &mut sheet);
         sheet.initial = 0;
     }
-    // Edges that it lost are made up for by repeated ones, which change no
-    // vertex.
+    repeat_edges(rng, &mut sheet);
+    random_books::with_book(rng, sheet)
+}
+
+/// Edges that a sheet lost are made up for by repeated ones, which change no
+/// vertex.
+fn repeat_edges(rng: &mut Rng, sheet: &mut Sheet) {
     while sheet.edges.len() < MOST_EDGES {
         let repeated = *rng.pick(&sheet.edges);
         sheet.edges.push(repeated);
     }
-    random_books::with_book(rng, sheet)
 }
 
 /// Whether a rejecting loop is reachable; none if there is no loop and few
@@ -93,6 +98,38 @@ fn counter_books() -> Vec<NamedBook> {
         }));
     }
     all
+}
+
+/// The inputs of two processes, which set 4 and 5, and 6 and 7.
+const INPUTS: [[u8; 2]; 4] = [[0x00, 0x00], [0x80, 0x01], [0x81, 0x22], [0xC5, 0x3A]];
+
+/// One automaton without a rejecting loop beside two processes of four states
+/// each that read none, one, two and four variables. There are 16 directions,
+/// so that a step is made 4,096 times, and the inputs of both are packed then.
+fn reading_books() -> Vec<NamedBook> {
+    let mut rng = Rng::new(SEED);
+    let mut sheet = Sheet {
+        variables: 8,
+        environment: 4,
+        processes: vec![Process::new(0, 0x30, 4), Process::new(0, 0xC0, 4)],
+        states: 16,
+        rejecting: 0xFF00,
+        ..Sheet::default()
+    };
+    random_sheets::add_edges(&mut rng, &mut sheet, MOST_EDGES);
+    rejecting_loops::exclude_rejecting_loops(&mut rng, &mut sheet);
+    repeat_edges(&mut rng, &mut sheet);
+    sheet.initial = 0;
+    let named = INPUTS.map(|inputs| {
+        for (process, mask) in sheet.processes.iter_mut().zip(inputs) {
+            process.inputs = mask;
+        }
+        NamedBook {
+            name: format!("two processes, inputs of each: {}", inputs[0].count_ones()),
+            input: random_books::with_book(&mut rng, sheet.clone()),
+        }
+    });
+    named.into()
 }
 
 /// Microseconds per call, the buffer kept as the call before left it.
@@ -184,8 +221,8 @@ fn print_heading(call: &str, size: &str, other: &str) {
 
 fn main() {
     print_heading("annotate", "vertices", "independent us");
-    for named in random_books().iter().chain(&counter_books()) {
-        measure_annotate(named);
+    for books in [random_books(), counter_books(), reading_books()] {
+        books.iter().for_each(measure_annotate);
     }
     println!();
     print_heading("find", "choices", "enumeration us");
