@@ -1,16 +1,18 @@
 //! Random sheets with so few choices that all of them can be tried.
 
 use crate::choices::choice_count;
-use crate::random_sheets::{self, any_shape, shapes, Shape};
+use crate::random_sheets::{self, shapes, Shape};
 use crate::rejecting_loops;
 use crate::rng::Rng;
-use crate::sheet::{
-    mask_below, variables_of, Edge, Sheet, MOST_ENVIRONMENT, MOST_STATES, MOST_VARIABLES,
-};
+use crate::sheet::{mask_below, variables_of, Edge, Sheet, MOST_STATES};
 
 /// A proper sheet with at most that many choices.
 pub fn sheet(rng: &mut Rng, most: u64) -> Sheet {
     let shape = shape(rng);
+    sheet_of_shape(rng, shape, most)
+}
+
+pub fn sheet_of_shape(rng: &mut Rng, shape: Shape, most: u64) -> Sheet {
     let mut sheet = if rng.one_in(5) {
         rejecting_loops::sheet_of_shape(rng, shape)
     } else {
@@ -24,12 +26,8 @@ pub fn sheet(rng: &mut Rng, most: u64) -> Sheet {
     sheet
 }
 
-/// The fewer of two drawn, since many outputs leave few states for each; or all
-/// variables with the fewest outputs, so that high ones are read.
+/// The fewer of two drawn, since many outputs leave few states for each.
 fn shape(rng: &mut Rng) -> Shape {
-    if rng.one_in(4) {
-        return any_shape(rng, reads_high_variables);
-    }
     let shapes = shapes();
     let drawn = [*rng.pick(&shapes), *rng.pick(&shapes)];
     let [one, other] = drawn;
@@ -40,14 +38,7 @@ fn shape(rng: &mut Rng) -> Shape {
     }
 }
 
-/// The highest variable is some process's output, and so another one's input.
-fn reads_high_variables(shape: &Shape) -> bool {
-    shape.variables == MOST_VARIABLES
-        && shape.environment == MOST_ENVIRONMENT
-        && shape.processes > 1
-}
-
-/// One state or one input less in some process.
+/// One state or one input less in some process; high inputs stay longer.
 fn shrink(rng: &mut Rng, sheet: &mut Sheet) {
     let index = rng.below(sheet.processes.len());
     let process = &mut sheet.processes[index];
@@ -55,7 +46,7 @@ fn shrink(rng: &mut Rng, sheet: &mut Sheet) {
     if inputs.is_empty() || rng.one_in(3) {
         process.bound = (process.bound - 1).max(1);
     } else {
-        process.inputs ^= 1 << rng.pick(&inputs);
+        process.inputs ^= 1 << rng.pick(&inputs).min(rng.pick(&inputs));
     }
 }
 

@@ -23,6 +23,11 @@ impl Shape {
         }
     }
 
+    /// Whether a process can read the highest variable, which another one sets.
+    pub fn can_read_highest(&self) -> bool {
+        self.variables == MOST_VARIABLES && self.processes > 1
+    }
+
     /// Its counts as the digits of a number.
     pub fn digits(&self) -> usize {
         self.variables * 100 + self.environment * 10 + self.processes

@@ -16,14 +16,16 @@ use soclethyme_tests::inputs_read::{count_inputs, INPUT_COUNT, READS_ACROSS_GAP,
 use soclethyme_tests::many_choices::{opening, relay, three_clients};
 use soclethyme_tests::proper_sheet::ProperSheet;
 use soclethyme_tests::random_faults;
-use soclethyme_tests::random_sheets::{self, shapes};
+use soclethyme_tests::random_sheets::{self, any_shape, shapes, Shape};
 use soclethyme_tests::refusal::{
     Refusal, CUT_OFF, SHEET_REFUSALS, SHORT_ANNOTATION, SHORT_BOOK_BUFFER,
 };
 use soclethyme_tests::rejecting_loops;
 use soclethyme_tests::rng::Rng;
 use soclethyme_tests::run_graph::{greatest_number, BLANK};
-use soclethyme_tests::sheet::{read_sheet, Sheet, MOST_EDGES, MOST_PROCESSES, MOST_VERTICES};
+use soclethyme_tests::sheet::{
+    read_sheet, Sheet, MOST_EDGES, MOST_ENVIRONMENT, MOST_PROCESSES, MOST_VERTICES,
+};
 use soclethyme_tests::single_faults;
 use soclethyme_tests::tally::Tally;
 use soclethyme_tests::text::hex;
@@ -250,9 +252,7 @@ fn finds_agree_on_few_choices() {
     assert!(all_zeros >= SHEETS / 5);
     tally.assert_often("processes", 1..=MOST_PROCESSES, SHEETS / 10);
     tally.assert_only("processes", 1..=MOST_PROCESSES);
-    tally.assert_often(INPUT_COUNT, 0..=2, 100);
-    tally.assert_often(READS_HIGHEST, [true], 100);
-    tally.assert_often(READS_ACROSS_GAP, [true], 100);
+    tally.assert_often(INPUT_COUNT, 0..=2, SHEETS / 20);
     tally.assert_often("room behind the book, the annotation", 0..4, SHEETS / 20);
     let refusals = [SHORT_BOOK_BUFFER, SHORT_ANNOTATION];
     tally.assert_often("find", refusals, 6 * SHEETS);
@@ -280,6 +280,30 @@ fn finds_agree_on_more_choices() {
     assert_eq!(tally.total("none"), 9);
     assert_eq!(tally.seen("none", true), 7);
     assert_eq!(tally.seen("found late", true), 2);
+}
+
+/// How many sheets are searched in which high variables are read.
+const SHEETS_WITH_HIGH: u64 = 2_000;
+
+/// Sheets with all variables, and the fewest of them outputs, so that processes
+/// with few choices read the highest.
+#[test]
+fn finds_agree_on_high_variables() {
+    let mut tally = Tally::default();
+    let mut rng = Rng::new(SEED);
+    let fits = |shape: &Shape| shape.can_read_highest() && shape.environment == MOST_ENVIRONMENT;
+    for _ in 0..SHEETS_WITH_HIGH {
+        let shape = any_shape(&mut rng, fits);
+        let searched = SearchedSheet::new(few_choices::sheet_of_shape(&mut rng, shape, 20_000));
+        compare(&mut tally, &mut rng, &searched);
+    }
+    tally.print("sheets with high variables searched");
+
+    tally.assert_often("none", [true], SHEETS_WITH_HIGH / 20);
+    tally.assert_often("not all zeros", [true], SHEETS_WITH_HIGH / 10);
+    tally.assert_often(INPUT_COUNT, 0..=2, SHEETS_WITH_HIGH / 10);
+    tally.assert_often(READS_HIGHEST, [true], SHEETS_WITH_HIGH / 10);
+    tally.assert_often(READS_ACROSS_GAP, [true], SHEETS_WITH_HIGH / 10);
 }
 
 /// Every mask of inputs that a process can have, with tables that depend on the

@@ -13,7 +13,7 @@ use soclethyme_tests::proper_sheet::{ProperSheet, SheetAndBook};
 use soclethyme_tests::random_annotations;
 use soclethyme_tests::random_books::{maybe_wrong_book, with_book, wrong_byte};
 use soclethyme_tests::random_faults;
-use soclethyme_tests::random_sheets::{self, shapes};
+use soclethyme_tests::random_sheets::{self, any_shape, shapes, Shape};
 use soclethyme_tests::refusal::{
     Refusal, CUT_OFF, SHEET_REFUSALS, SHORT_ANNOTATION, WRONG_ENTRY, WRONG_FORM,
 };
@@ -188,6 +188,16 @@ fn compare_shapes(tally: &mut Tally, rng: &mut Rng) {
     }
 }
 
+/// Sheets in which the highest variable can be read.
+fn compare_high_variables(tally: &mut Tally, rng: &mut Rng) {
+    for _ in 0..1_000 {
+        let shape = any_shape(rng, Shape::can_read_highest);
+        let sheet = rejecting_loops::sheet_of_shape(rng, shape);
+        let input = with_book(rng, sheet);
+        compare_annotations(tally, rng, &BookGraph::of(&input));
+    }
+}
+
 const LARGEST_GRAPHS: usize = 24;
 
 /// The largest graphs there are, every second one without a rejecting loop.
@@ -323,6 +333,7 @@ fn verdicts_agree_on_generated_books() {
     let mut tally = Tally::default();
     let mut rng = Rng::new(SEED);
     compare_shapes(&mut tally, &mut rng);
+    compare_high_variables(&mut tally, &mut rng);
     compare_largest(&mut tally, &mut rng);
     compare_counters(&mut tally, &mut rng);
     compare_wrong_books(&mut tally, &mut rng);
@@ -332,10 +343,10 @@ fn verdicts_agree_on_generated_books() {
     assert!(tally.total("annotate") >= 100_000);
     tally.assert_often("rejecting loop", [false, true], 1_000);
     assert_eq!(tally.greatest("vertices"), Some(MOST_VERTICES as u64));
-    tally.assert_often(INPUT_COUNT, 0..=MOST_INPUTS, 100);
+    tally.assert_often(INPUT_COUNT, 0..=MOST_INPUTS, 500);
     tally.assert_only(INPUT_COUNT, 0..=MOST_INPUTS);
-    tally.assert_often(READS_HIGHEST, [true], 100);
-    tally.assert_often(READS_ACROSS_GAP, [true], 100);
+    tally.assert_often(READS_HIGHEST, [true], 500);
+    tally.assert_often(READS_ACROSS_GAP, [true], 500);
     assert_answers(&tally, "judge");
     assert_answers(&tally, "annotate");
 }
