@@ -1,7 +1,7 @@
 //! Sheets whose tables have to tell one value of the inputs from all others, for
-//! every mask of inputs that a process can have.
+//! every mask of inputs that a process with one output can have.
 
-use crate::sheet::{variables_of, Edge, Process, Sheet, MOST_INPUTS};
+use crate::sheet::{lowest_of, variables_of, Edge, Process, Sheet, MOST_INPUTS};
 
 /// The environment sets these variables, the detector this one, and a process
 /// without inputs the others.
@@ -15,22 +15,37 @@ pub fn input_masks() -> impl Iterator<Item = u8> {
     (0..=255).filter(fits)
 }
 
-/// From the second label on the detector's variable is on exactly when all its
-/// inputs are. The other process has all that it sets on, from then on too.
+/// From the second label on the detector's variable is on exactly when its
+/// lowest input is off and the others are on. The process without inputs has to
+/// keep its variables so, and those that are not read on.
 pub fn detector(inputs: u8) -> Sheet {
     let (opening, watching, violated) = (0, 1, 2);
-    let changing = inputs & ENVIRONMENT;
+    let off = lowest_of(inputs);
+    let on = inputs & !off;
+    let missed = Edge::new(
+        watching,
+        violated,
+        on & ENVIRONMENT,
+        off & ENVIRONMENT | DETECTED,
+    );
     let mut edges = vec![
         Edge::new(opening, watching, 0, 0),
         Edge::new(watching, watching, 0, 0),
         Edge::new(violated, violated, 0, 0),
-        Edge::new(watching, violated, changing, DETECTED),
+        missed,
     ];
-    for variable in variables_of(changing) {
-        edges.push(Edge::new(watching, violated, DETECTED, 1 << variable));
+    for variable in variables_of(inputs & ENVIRONMENT) {
+        let wrong = 1 << variable;
+        edges.push(Edge::new(
+            watching,
+            violated,
+            wrong & off | DETECTED,
+            wrong & on,
+        ));
     }
     for variable in variables_of(OTHERS) {
-        edges.push(Edge::new(watching, violated, 0, 1 << variable));
+        let wrong = 1 << variable;
+        edges.push(Edge::new(watching, violated, wrong & off, wrong & !off));
     }
     Sheet {
         variables: 8,

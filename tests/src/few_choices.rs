@@ -1,10 +1,10 @@
 //! Random sheets with so few choices that all of them can be tried.
 
 use crate::choices::choice_count;
-use crate::random_sheets::{self, shapes, Shape};
+use crate::random_sheets::{self, any_shape, shapes, Shape};
 use crate::rejecting_loops;
 use crate::rng::Rng;
-use crate::sheet::{mask_below, variables_of, Edge, Sheet, MOST_STATES};
+use crate::sheet::{mask_below, variables_of, Edge, Sheet, MOST_ENVIRONMENT, MOST_STATES};
 
 /// A proper sheet with at most that many choices.
 pub fn sheet(rng: &mut Rng, most: u64) -> Sheet {
@@ -12,7 +12,15 @@ pub fn sheet(rng: &mut Rng, most: u64) -> Sheet {
     sheet_of_shape(rng, shape, most)
 }
 
-pub fn sheet_of_shape(rng: &mut Rng, shape: Shape, most: u64) -> Sheet {
+/// One with all variables, and the fewest of them outputs, so that the highest
+/// is read by processes that have a next state to choose.
+pub fn with_high_variables(rng: &mut Rng, most: u64) -> Sheet {
+    let fits = |shape: &Shape| shape.can_read_highest() && shape.environment == MOST_ENVIRONMENT;
+    let shape = any_shape(rng, fits);
+    sheet_of_shape(rng, shape, most)
+}
+
+fn sheet_of_shape(rng: &mut Rng, shape: Shape, most: u64) -> Sheet {
     let mut sheet = if rng.one_in(5) {
         rejecting_loops::sheet_of_shape(rng, shape)
     } else {

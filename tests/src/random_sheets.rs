@@ -2,8 +2,9 @@
 
 use crate::rng::Rng;
 use crate::sheet::{
-    mask_below, mask_of, variables_of, Edge, Process, Sheet, MOST_BOUND, MOST_COMPOSED, MOST_EDGES,
-    MOST_ENVIRONMENT, MOST_INPUTS, MOST_PROCESSES, MOST_STATES, MOST_VARIABLES,
+    highest_of, lowest_of, mask_below, mask_of, variables_of, Edge, Process, Sheet, MOST_BOUND,
+    MOST_COMPOSED, MOST_EDGES, MOST_ENVIRONMENT, MOST_INPUTS, MOST_PROCESSES, MOST_STATES,
+    MOST_VARIABLES,
 };
 
 /// The counts that a sheet's architecture begins with.
@@ -159,24 +160,14 @@ fn inputs(rng: &mut Rng, allowed: u8) -> u8 {
     let most = free.len().min(MOST_INPUTS as usize);
     let count = match rng.below(8) {
         0 => 0,
-        1 => return highest(allowed),
-        2 => return lowest(allowed) | highest(allowed),
+        1 => return highest_of(allowed),
+        2 => return lowest_of(allowed) | highest_of(allowed),
         3 => return every_second(rng, free),
         4 | 5 => most,
         _ => rng.within(0, most),
     };
     rng.shuffle(&mut free);
     mask_of(&free[..count])
-}
-
-/// The lowest variable of a mask alone, none if it has none.
-fn lowest(mask: u8) -> u8 {
-    mask & mask.wrapping_neg()
-}
-
-/// The highest variable of a mask alone, none if it has none.
-fn highest(mask: u8) -> u8 {
-    lowest(mask.reverse_bits()).reverse_bits()
 }
 
 /// Every second of these variables, counted from either end.

@@ -142,6 +142,16 @@ pub fn mask_of(variables: &[u8]) -> u8 {
     variables.iter().fold(0, |mask, bit| mask | 1 << bit)
 }
 
+/// The lowest variable of a mask alone, none if it has none.
+pub fn lowest_of(mask: u8) -> u8 {
+    mask & mask.wrapping_neg()
+}
+
+/// The highest variable of a mask alone, none if it has none.
+pub fn highest_of(mask: u8) -> u8 {
+    lowest_of(mask.reverse_bits()).reverse_bits()
+}
+
 impl Sheet {
     /// T, the number of composed states.
     pub fn composed(&self) -> usize {

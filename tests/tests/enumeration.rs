@@ -4,6 +4,7 @@
 use soclethyme_tests::bench_cases::{case_c, proper_cases, BOOK_A};
 use soclethyme_tests::book::{book_of, read, TABLES_LENGTH};
 use soclethyme_tests::choices::{self, choice_count, Choices, FoundChoice};
+use soclethyme_tests::detectors::{detector, input_masks};
 use soclethyme_tests::fast_enumeration;
 use soclethyme_tests::few_choices;
 use soclethyme_tests::many_choices::{opening, relay, three_clients};
@@ -71,6 +72,14 @@ fn fast_enumeration_agrees() {
     let (found, none): (Vec<_>, Vec<_>) = found.partition(Option::is_some);
     let not_first = found.iter().flatten().filter(|found| found.before > 0);
     assert!(none.len() >= 800 && not_first.count() >= 800);
+}
+
+/// One input and two, wherever they lie; with more the plain one takes long.
+#[test]
+fn fast_enumeration_agrees_on_input_masks() {
+    let masks = input_masks().filter(|mask| mask.count_ones() <= 2);
+    let found: Vec<_> = masks.map(|inputs| agreed(detector(inputs))).collect();
+    assert!(found.len() == 29 && found.iter().all(Option::is_some));
 }
 
 #[test]

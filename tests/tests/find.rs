@@ -16,16 +16,14 @@ use soclethyme_tests::inputs_read::{count_inputs, INPUT_COUNT, READS_ACROSS_GAP,
 use soclethyme_tests::many_choices::{opening, relay, three_clients};
 use soclethyme_tests::proper_sheet::ProperSheet;
 use soclethyme_tests::random_faults;
-use soclethyme_tests::random_sheets::{self, any_shape, shapes, Shape};
+use soclethyme_tests::random_sheets::{self, shapes};
 use soclethyme_tests::refusal::{
     Refusal, CUT_OFF, SHEET_REFUSALS, SHORT_ANNOTATION, SHORT_BOOK_BUFFER,
 };
 use soclethyme_tests::rejecting_loops;
 use soclethyme_tests::rng::Rng;
 use soclethyme_tests::run_graph::{greatest_number, BLANK};
-use soclethyme_tests::sheet::{
-    read_sheet, Sheet, MOST_EDGES, MOST_ENVIRONMENT, MOST_PROCESSES, MOST_VERTICES,
-};
+use soclethyme_tests::sheet::{read_sheet, Sheet, MOST_EDGES, MOST_PROCESSES, MOST_VERTICES};
 use soclethyme_tests::single_faults;
 use soclethyme_tests::tally::Tally;
 use soclethyme_tests::text::hex;
@@ -285,16 +283,13 @@ fn finds_agree_on_more_choices() {
 /// How many sheets are searched in which high variables are read.
 const SHEETS_WITH_HIGH: u64 = 2_000;
 
-/// Sheets with all variables, and the fewest of them outputs, so that processes
-/// with few choices read the highest.
 #[test]
 fn finds_agree_on_high_variables() {
     let mut tally = Tally::default();
     let mut rng = Rng::new(SEED);
-    let fits = |shape: &Shape| shape.can_read_highest() && shape.environment == MOST_ENVIRONMENT;
     for _ in 0..SHEETS_WITH_HIGH {
-        let shape = any_shape(&mut rng, fits);
-        let searched = SearchedSheet::new(few_choices::sheet_of_shape(&mut rng, shape, 20_000));
+        let sheet = few_choices::with_high_variables(&mut rng, 20_000);
+        let searched = SearchedSheet::new(sheet);
         compare(&mut tally, &mut rng, &searched);
     }
     tally.print("sheets with high variables searched");
@@ -306,8 +301,8 @@ fn finds_agree_on_high_variables() {
     tally.assert_often(READS_ACROSS_GAP, [true], SHEETS_WITH_HIGH / 10);
 }
 
-/// Every mask of inputs that a process can have, with tables that depend on the
-/// place of each: three and four inputs have too many choices for other sheets.
+/// Tables that depend on where each input is packed, for every mask of inputs:
+/// with three and four there are too many choices for the tests above.
 #[test]
 fn finds_agree_on_every_input_mask() {
     let mut tally = Tally::default();
