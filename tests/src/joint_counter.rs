@@ -69,10 +69,10 @@ impl JointCounter {
         bounds.map(|bound| *bound as usize).product()
     }
 
-    /// The greatest number of its annotation: each step but the first enters a
-    /// rejecting state. There is none if the rounds never end.
+    /// The greatest number of its annotation: the rounds' states all reject, the
+    /// initial one too. There is none if the rounds never end.
     pub fn greatest_number(&self) -> Option<u16> {
-        let greatest = self.rounds as usize * self.round_length() - 1;
+        let greatest = self.rounds as usize * self.round_length();
         (!self.closed).then_some(greatest as u16)
     }
 

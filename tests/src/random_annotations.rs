@@ -1,7 +1,7 @@
 //! Annotations for a run graph: valid ones, and such as are wrong at one vertex.
 
 use crate::rng::Rng;
-use crate::run_graph::{greatest_number, CountedEnd, RunGraph, BLANK, GREATEST_NUMBER};
+use crate::run_graph::{greatest_number, RunGraph, BLANK, GREATEST_NUMBER};
 
 /// Annotations of all kinds for the graph, each as long as it has vertices.
 pub fn of_all_kinds(rng: &mut Rng, graph: &RunGraph) -> Vec<Vec<u16>> {
@@ -10,13 +10,12 @@ pub fn of_all_kinds(rng: &mut Rng, graph: &RunGraph) -> Vec<Vec<u16>> {
     all.push(low_numbers(rng, graph.len()));
     if let Some(exact) = graph.annotation() {
         all.extend(with_changed_copies(rng, graph, &exact));
+        let left = counted_when_left(graph, &exact);
+        all.push(raised(&left, 1));
+        all.push(left);
     }
     if let Some(wider) = numbering_more(rng, graph) {
         all.extend(with_changed_copies(rng, graph, &wider));
-    }
-    if let Some(left) = graph.numbers(&[graph.initial], CountedEnd::Left) {
-        all.push(raised(&left, 1));
-        all.push(left);
     }
     all
 }
@@ -44,7 +43,15 @@ fn numbering_more(rng: &mut Rng, graph: &RunGraph) -> Option<Vec<u16>> {
     for _ in 0..rng.within(1, 3) {
         starts.push(rng.below(graph.len()));
     }
-    graph.numbers(&starts, CountedEnd::Entered)
+    graph.numbers(&starts)
+}
+
+/// The mistake that the specification's case H shows: a rejecting vertex counts
+/// as it is left, and not as it is entered.
+fn counted_when_left(graph: &RunGraph, exact: &[u16]) -> Vec<u16> {
+    with_numbers(exact, |vertex, number| {
+        number - u16::from(graph.rejecting[vertex])
+    })
 }
 
 /// The annotation itself, raised copies, and copies changed at one vertex.
@@ -107,15 +114,27 @@ fn vertices(annotation: &[u16], fits: impl Fn(u16) -> bool) -> Vec<usize> {
     all.filter(|vertex| fits(annotation[*vertex])).collect()
 }
 
-/// All numbers raised by a constant, the blanks left.
-fn raised(annotation: &[u16], by: u16) -> Vec<u16> {
-    let numbers = annotation.iter();
+/// Other numbers in place of these, the blanks left.
+fn with_numbers(annotation: &[u16], other: impl Fn(usize, u16) -> u16) -> Vec<u16> {
+    let numbers = annotation.iter().enumerate();
     numbers
-        .map(|number| match *number {
+        .map(|(vertex, number)| match *number {
             BLANK => BLANK,
-            number => number + by,
+            number => other(vertex, number),
         })
         .collect()
+}
+
+/// All numbers raised by a constant.
+fn raised(annotation: &[u16], by: u16) -> Vec<u16> {
+    with_numbers(annotation, |_, number| number + by)
+}
+
+/// The numbers less one: as they were before a rejecting start counted.
+pub fn without_start(annotation: &[u16]) -> Vec<u16> {
+    with_numbers(annotation, |_, number| {
+        number.checked_sub(1).expect("a number counts the start")
+    })
 }
 
 fn changed(annotation: &[u16], vertex: usize, value: u16) -> Vec<u16> {

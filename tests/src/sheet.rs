@@ -165,6 +165,11 @@ impl Sheet {
         self.composed() * self.states as usize
     }
 
+    /// No number of a returned annotation is higher.
+    pub fn number_bound(&self) -> usize {
+        self.composed() * self.rejecting.count_ones() as usize
+    }
+
     pub fn is_rejecting(&self, state: u8) -> bool {
         self.rejecting >> state & 1 == 1
     }

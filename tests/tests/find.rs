@@ -132,6 +132,11 @@ fn count_properties(tally: &mut Tally, searched: &SearchedSheet) {
     tally.count("none of many choices", before.is_none() && many_choices);
     tally.count("not all zeros", before > Some(0));
     tally.count("found late", before >= Some(MANY));
+    let starts_rejecting = sheet.is_rejecting(sheet.initial);
+    tally.count(
+        "found, the start rejecting",
+        before.is_some() && starts_rejecting,
+    );
     count_inputs(tally, sheet);
 }
 
@@ -246,6 +251,7 @@ fn finds_agree_on_few_choices() {
     tally.assert_often("none of many choices", [true], SHEETS / 12);
     tally.assert_often("not all zeros", [true], SHEETS / 3);
     tally.assert_often("found late", [true], SHEETS / 20);
+    tally.assert_often("found, the start rejecting", [true], SHEETS / 20);
     let all_zeros = tally.seen("none", false) - tally.seen("not all zeros", true);
     assert!(all_zeros >= SHEETS / 5);
     tally.assert_often("processes", 1..=MOST_PROCESSES, SHEETS / 10);
@@ -506,8 +512,8 @@ fn bench_cases_e_to_h() {
     assert_found(case_e(), &BOOK_E, &[0]);
     assert_eq!(find(case_f(1)), None);
     assert_eq!(find(case_f(4)), None);
-    assert_found(case_g(), &BOOK_E, &[0]);
-    assert_found(case_h(REJECTING_0), &BOOK_E, &[0, 0]);
+    assert_found(case_g(), &BOOK_E, &[1]);
+    assert_found(case_h(REJECTING_0), &BOOK_E, &[1, 1]);
     assert_found(case_h(REJECTING_1), &BOOK_E, &[0, 1]);
 }
 

@@ -86,14 +86,28 @@ impl BookGraph {
     }
 }
 
+const STARTS_REJECTING: &str = "annotated, the start rejecting";
+const BOUND_REACHED: &str = "bound reached, the start rejecting";
+
 /// Counts what the graph is like, once for all inputs with it.
 fn count_properties(tally: &mut Tally, graph: &BookGraph) {
     tally.count("rejecting loop", graph.annotation.is_none());
     tally.count("vertices", graph.vertices());
     if let Some(annotation) = &graph.annotation {
-        tally.count("greatest number", greatest_number(annotation));
         let sheet = read_sheet(&graph.sheet).expect("a proper sheet");
+        let greatest = usize::from(greatest_number(annotation));
+        tally.count("greatest number", greatest);
+        count_start(tally, graph.graph(), greatest == sheet.number_bound());
         count_inputs(tally, &sheet);
+    }
+}
+
+/// Counts whether the start is an entry, and then whether a number is as high as
+/// any can be.
+fn count_start(tally: &mut Tally, graph: &RunGraph, reached: bool) {
+    tally.count(STARTS_REJECTING, graph.starts_rejecting());
+    if graph.starts_rejecting() {
+        tally.count(BOUND_REACHED, reached);
     }
 }
 
@@ -155,6 +169,16 @@ fn assert_judged_as_annotated(tally: &mut Tally, graph: &BookGraph) {
     );
 }
 
+/// Numbers in which a rejecting start does not count are valid too.
+fn assert_judged_without_start(tally: &mut Tally, graph: &BookGraph) {
+    if let Some(annotation) = &graph.annotation {
+        if graph.graph().starts_rejecting() {
+            let older = random_annotations::without_start(annotation);
+            assert_eq!(compare_judge(tally, graph, &older), POSITIVE);
+        }
+    }
+}
+
 /// Annotations of all kinds, and buffers of other lengths.
 fn compare_annotations(tally: &mut Tally, rng: &mut Rng, graph: &BookGraph) {
     count_properties(tally, graph);
@@ -173,6 +197,7 @@ fn compare_annotations(tally: &mut Tally, rng: &mut Rng, graph: &BookGraph) {
         assert_eq!(annotated == SHORT_ANNOTATION, short);
     }
     assert_judged_as_annotated(tally, graph);
+    assert_judged_without_start(tally, graph);
 }
 
 const SHEETS_OF_SHAPE: usize = 40;
@@ -343,6 +368,9 @@ fn verdicts_agree_on_generated_books() {
     assert!(tally.total("annotate") >= 100_000);
     tally.assert_often("rejecting loop", [false, true], 1_000);
     assert_eq!(tally.greatest("vertices"), Some(MOST_VERTICES as u64));
+    let starts = tally.total(STARTS_REJECTING);
+    tally.assert_often(STARTS_REJECTING, [false, true], starts / 5);
+    tally.assert_often(BOUND_REACHED, [true], 40);
     tally.assert_often(INPUT_COUNT, 0..=MOST_INPUTS, 500);
     tally.assert_only(INPUT_COUNT, 0..=MOST_INPUTS);
     tally.assert_often(READS_HIGHEST, [true], 500);
@@ -386,8 +414,9 @@ fn bench_case_d_has_no_loop() {
 
 #[test]
 fn bench_cases_e_f_and_g() {
-    for sheet in [case_e(), case_g()] {
-        assert_annotated(&sheet.bytes(), &BOOK_E, &[0]);
+    for (sheet, number) in [(case_e(), 0), (case_g(), 1)] {
+        assert_annotated(&sheet.bytes(), &BOOK_E, &[number]);
+        assert_judged(&sheet, &[0], POSITIVE);
         assert_judged(&sheet, &[65_534], POSITIVE);
         assert_judged(&sheet, &[BLANK], NEGATIVE);
     }
@@ -401,9 +430,10 @@ fn bench_cases_e_f_and_g() {
 #[test]
 fn bench_case_h_judgements() {
     assert_judged(&case_h(REJECTING_0), &[0, 0], POSITIVE);
+    assert_judged(&case_h(REJECTING_0), &[1, 1], POSITIVE);
     assert_judged(&case_h(REJECTING_1), &[0, 0], NEGATIVE);
     assert_judged(&case_h(REJECTING_1), &[0, 1], POSITIVE);
-    assert_annotated(&case_h(REJECTING_0).bytes(), &BOOK_E, &[0, 0]);
+    assert_annotated(&case_h(REJECTING_0).bytes(), &BOOK_E, &[1, 1]);
     assert_annotated(&case_h(REJECTING_1).bytes(), &BOOK_E, &[0, 1]);
 }
 
@@ -440,13 +470,14 @@ fn harmless_loops() {
     assert_judged(&not_reached, &[65_534, 65_534], NEGATIVE);
 }
 
-/// The counter enters its vertices in the order of their positions.
+/// The counter enters its vertices in the order of their positions; the first of
+/// them counts, so that the last has T times the rejecting states.
 #[test]
 fn longest_counter_numbers_every_vertex() {
     let input = LONGEST_COUNTER.with_book();
     let mut annotation = vec![BLANK; MOST_VERTICES];
     for (position, number) in annotation[..13 * 256].iter_mut().enumerate() {
-        *number = position as u16;
+        *number = position as u16 + 1;
     }
     assert_annotated(&input.proper.bytes, &input.book, &annotation);
 }

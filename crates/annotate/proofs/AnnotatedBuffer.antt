@@ -22,10 +22,10 @@ use Rattle.model.specs.Calls.{Chosen, AfterAnnotate, front, annotationShort, ro
 use Rattle.model.specs.Numbers.{number}
 use Rattle.model.proofs.ProperSheet.{goes-on, same-proper, sheet-proper}
 use Rattle.model.proofs.Refusing.{go}
+use Rattle.model.proofs.AnnotationExact.{annotation-whole}
 use Rattle.sheet.specs.declared.Reading.{Reading}
 use Rattle.sheet.specs.Struct.{sheetOf, readingOf}
 use Rattle.graph.proofs.TablesOfChoice.{vertices-few}
-use Rattle.sizes.proofs.AnnotationWhole.{annotation-whole}
 use Rattle.sizes.proofs.SheetRead.{reading-is}
 use Rattle.text.specs.Text.{greatestText, loopText, refusedText}
 use Rattle.words.specs.Words.{bytesOf}

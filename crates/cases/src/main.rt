@@ -74,19 +74,21 @@ fn case_f() {
     find(b"F 4", &sheet, 26, 4);
 }
 
-// E with a rejecting state that no step enters.
+// E with state 0 rejecting: no step enters it, but the start is an entry.
 fn case_g() {
     let mut sheet = CASE_E;
     sheet[REJECTING] = 0x01;
     find(b"G", &sheet, 8, 1);
 }
 
-// Numbers rise where the state entered is rejecting, and not where the state left is.
+// Numbers rise where the state entered is rejecting, and not where the state left is. A rejecting start is counted, and need not be.
 fn case_h() {
     let mut sheet = CASE_H;
     let book = BOOK_E;
+    annotate(b"H rejecting 0", &sheet, &book, 2);
     judge(b"H rejecting 0 numbers 0 0", &sheet, &book, &[0, 0]);
     sheet[REJECTING] = 0x02;
+    annotate(b"H rejecting 1", &sheet, &book, 2);
     judge(b"H rejecting 1 numbers 0 0", &sheet, &book, &[0, 0]);
     judge(b"H rejecting 1 numbers 0 1", &sheet, &book, &[0, 1]);
 }

@@ -24,13 +24,13 @@ use Rattle.model.proofs.Sizes.{book-short}
 use Rattle.model.proofs.BookInverse.{filled-length}
 use Rattle.model.proofs.BookRead.{choice-read}
 use Rattle.model.proofs.FirstInOrder.{first-some, entries-small}
+use Rattle.model.proofs.AnnotationExact.{annotation-whole}
 use Rattle.sheet.specs.declared.Reading.{Reading}
 use Rattle.sheet.specs.Struct.{sheetOf, readingOf}
 use Rattle.book.specs.declared.TablesRead.{TablesRead}
 use Rattle.book.specs.Answers.{afterRead}
 use Rattle.graph.proofs.ChoiceAtFront.{chosen-tables}
 use Rattle.graph.proofs.TablesOfChoice.{vertices-few}
-use Rattle.sizes.proofs.AnnotationWhole.{annotation-whole}
 use Rattle.sizes.proofs.SheetRead.{reading-is}
 use Rattle.text.specs.Text.{textOf, noneText, refusedText}
 use Rattle.text.proofs.TextReads.{text-front}

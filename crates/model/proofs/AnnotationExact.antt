@@ -14,21 +14,25 @@ use Rattle.theory.specs.Lists
 use Rattle.theory.specs.Graph.{rejecting-vertices}
 use Rattle.theory.specs.Annotation
 use Rattle.theory.proofs.ListLaws.{count-le}
-use Rattle.theory.proofs.AnnotationLaws.{annotation-length as theory-length}
+use Rattle.theory.proofs.AnnotationLaws.{annotation-length}
 use Rattle.model.specs.Mask.{bit, count}
 use Rattle.model.specs.Sheet.{Sheet, ProperSheet}
 use Rattle.model.specs.Compose.{T}
 use Rattle.model.specs.Choice.{IsChoice}
-use Rattle.model.specs.RunGraph.{vertices, automatonState, rejects, Keeps, blank}
-use Rattle.model.specs.Computed.{runGraph, annotation}
+use Rattle.model.specs.RunGraph.{vertices, automatonState, rejects, startEntries, Keeps, blank}
+use Rattle.model.specs.Computed.{runGraph, annotationFrom, annotation}
 use Rattle.model.specs.Demands.{Annotates}
 use Rattle.model.proofs.ComposedNumbers.{T-pos}
 use Rattle.model.proofs.ComputedTests.{most-rejections, blank-elsewhere, few-rejections}
 
--- ---- its length
-annotation-length : (s : Sheet) (c : List ℕ) → length (annotation s c) ≡ vertices s
-unfolding annotation runGraph
-annotation-length s c = theory-length (runGraph s c) 0 blank
+-- ---- its length, counted from any number at the start
+pub counted-whole : (k₀ : ℕ) (s : Sheet) (c : List ℕ) → length (annotationFrom k₀ s c) ≡ vertices s
+unfolding annotationFrom runGraph
+counted-whole k₀ s c = annotation-length (runGraph s c) k₀ blank
+
+pub annotation-whole : (s : Sheet) (c : List ℕ) → length (annotation s c) ≡ vertices s
+unfolding annotation
+annotation-whole s c = counted-whole (startEntries s) s c
 
 -- ---- how many vertices reject
 one-bit : (r : ℕ) → r < 2 → one (eqb r 1) ≡ r
@@ -86,16 +90,17 @@ rejecting-few s c good =
       mul-le-mul-left (T (s .architecture)) (bits-le (s .automaton .states) (s .automaton .rejecting)),
     )
 
--- the numbers stay below blank
-pub below-blank : (s : Sheet) (c : List ℕ) → ProperSheet s → rejecting-vertices (runGraph s c) < blank
+-- the numbers stay far below blank
+pub rejecting-at-most : (s : Sheet) (c : List ℕ) → ProperSheet s → rejecting-vertices (runGraph s c) ≤ 4096
 unfolding rejecting-vertices runGraph vertices T
-below-blank s c good = omega (arith, count-le (runGraph s c .rejects) (vertices s), mul-le-mul (good .automaton .few-states) (good .architecture .few-composed))
+rejecting-at-most s c good = omega (arith, count-le (runGraph s c .rejects) (vertices s), mul-le-mul (good .automaton .few-states) (good .architecture .few-composed))
 
 pub annotates : (s : Sheet) (c : List ℕ) → ProperSheet s → IsChoice (s .architecture) c → Keeps s c → Annotates s c (annotation s c)
+unfolding annotation
 annotates s c good choice kept = record {
-  whole = annotation-length s c;
+  whole = annotation-whole s c;
   most = most-rejections s c good choice kept;
-  numbered = λ v r. omega (arith, few-rejections s c good choice kept v r, below-blank s c good);
-  others = blank-elsewhere s c good choice kept;
+  numbered = λ v r. omega (arith, few-rejections s c good choice kept v r, rejecting-at-most s c good);
+  others = blank-elsewhere s c good choice kept (startEntries s);
   bounded = λ v r. omega (arith, few-rejections s c good choice kept v r, rejecting-few s c good);
 }

@@ -15,18 +15,18 @@ use Rattle.model.specs.Mask.{if}
 use Rattle.model.specs.Sheet.{Sheet, ProperSheet}
 use Rattle.model.specs.Reading.{Reading, refused, proper, readSheet}
 use Rattle.model.specs.Choice.{IsChoice}
-use Rattle.model.specs.RunGraph.{vertices, RejectingLoop, Keeps, blank, Valid}
-use Rattle.model.specs.Computed.{loops, annotation, valid}
+use Rattle.model.specs.RunGraph.{vertices, startEntries, RejectingLoop, Keeps, blank, Valid}
+use Rattle.model.specs.Computed.{loops, annotationFrom, annotation, valid}
 use Rattle.model.specs.Book.{bookOf, readBook}
 use Rattle.model.specs.Calls.{front, annotationShort, Chosen, roomFor, bookFor, bookAndRoom, judged, judgeOf, AfterAnnotate, annotatedBy, annotated, annotateOf}
-use Rattle.model.specs.Demands.{Annotates, Weighed, demand-2}
+use Rattle.model.specs.Demands.{Annotates, Older, Weighed, demand-2}
 use Rattle.model.proofs.ProperSheet.{passes, goes-on, same-proper, sheet-proper}
 use Rattle.model.proofs.Refusing.{go, then-read}
 use Rattle.model.proofs.BookRead.{choice-read, read-choice}
 use Rattle.model.proofs.BookCalls.{all-books}
-use Rattle.model.proofs.ComputedTests.{loops-exactly, valid-exactly}
-use Rattle.model.proofs.AnnotationExact.{annotates}
-use Rattle.model.proofs.AnnotationPasses.{front-long, front-valid}
+use Rattle.model.proofs.ComputedTests.{loops-exactly, valid-exactly, path-lt, blank-elsewhere, counted-from}
+use Rattle.model.proofs.AnnotationExact.{counted-whole, annotates}
+use Rattle.model.proofs.AnnotationPasses.{start-entries-few, front-long, front-number, front-valid}
 
 not-true-false : (b : Bool) → ¬ (b ≡ true) → b ≡ false
 not-true-false true n = absurd (n refl)
@@ -168,20 +168,40 @@ module _ (sheet book ann : List ℕ) where
     λ w. ap (λ (a : AfterAnnotate). a .answer) (annotate-kept w),
   )
 
--- what annotate wrote is as long as is asked, and valid
-pub passes-judge : (sheet book ann : List ℕ) → Weighed sheet book ann Keeps → judgeOf sheet book (annotateOf sheet book ann .annotation) ≡ Verdict.Found Yes
-passes-judge sheet book ann w =
-    let good : ProperSheet (w .read) = sheet-proper sheet (w .read) (w .is-proper) in
-    let written : List ℕ = front (annotation (w .read) (w .choice)) ann in
-    ap (λ (x : AfterAnnotate). judgeOf sheet book (x .annotation)) (annotate-kept sheet book ann w)
-    ∙ says-yes sheet book written .1 record {
+-- counted from 0 or 1 at the start, the numbers are as long as is asked, and valid
+passes-from : (k₀ : ℕ) → k₀ ≤ 1 → (sheet book ann buffer : List ℕ) (w : Weighed sheet book ann Keeps)
+    → judgeOf sheet book (front (annotationFrom k₀ (w .read) (w .choice)) buffer) ≡ Verdict.Found Yes
+passes-from k₀ few sheet book ann buffer w =
+    says-yes sheet book (front (annotationFrom k₀ (w .read) (w .choice)) buffer) .1 record {
       read = w .read;
       choice = w .choice;
       is-proper = w .is-proper;
       is-choice = w .is-choice;
       is-book = w .is-book;
-      has-room = front-long (w .read) (w .choice) good (w .is-choice) (w .holds) ann;
-      holds = valid-exactly (w .read) (w .choice) good (w .is-choice) written .0 (front-valid (w .read) (w .choice) good (w .is-choice) (w .holds) ann);
+      has-room = front-long (w .read) (w .choice) k₀ buffer;
+      holds = front-valid (w .read) (w .choice) k₀ (sheet-proper sheet (w .read) (w .is-proper)) (w .is-choice) (w .holds) few buffer;
+    }
+
+pub passes-judge : (sheet book ann : List ℕ) → Weighed sheet book ann Keeps → judgeOf sheet book (annotateOf sheet book ann .annotation) ≡ Verdict.Found Yes
+unfolding annotation
+passes-judge sheet book ann w =
+    ap (λ (x : AfterAnnotate). judgeOf sheet book (x .annotation)) (annotate-kept sheet book ann w)
+    ∙ passes-from (startEntries (w .read)) (start-entries-few (w .read)) sheet book ann ann w
+
+-- what annotate wrote, and the same counted from 0
+older : (sheet book ann : List ℕ) (w : Weighed sheet book ann Keeps) → Older (w .read) (w .choice) (annotateOf sheet book ann .annotation) (annotationFrom 0 (w .read) (w .choice))
+unfolding annotation
+older sheet book ann w =
+    let s = w .read in
+    let c = w .choice in
+    let good : ProperSheet s = sheet-proper sheet s (w .is-proper) in
+    record {
+      whole = counted-whole 0 s c;
+      lower = λ v r.
+          sym (counted-from s c good (w .is-choice) (w .holds) (startEntries s) v r)
+          ∙ front-number s c (startEntries s) ann v (path-lt s c good (w .is-choice) (r .1))
+          ∙ ap (λ (x : AfterAnnotate). getD (x .annotation) v blank) (sym (annotate-kept sheet book ann w));
+      others = blank-elsewhere s c good (w .is-choice) (w .holds) 0;
     }
 
 pub second-demand : demand-2
@@ -193,5 +213,7 @@ second-demand = record {
   annotates = λ sheet book ann w.
       (annotation (w .read) (w .choice), annotates (w .read) (w .choice) (sheet-proper sheet (w .read) (w .is-proper)) (w .is-choice) (w .holds), annotate-kept sheet book ann w);
   annotation-passes = passes-judge;
+  older-numbers = older;
+  older-passes = passes-from 0 (omega arith);
   books = all-books;
 }

@@ -1,4 +1,3 @@
 -- what the programs that read books and annotations cite
 pub mod BookFront
-pub mod AnnotationWhole
 pub mod SheetRead

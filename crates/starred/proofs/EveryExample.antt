@@ -26,6 +26,7 @@ every-example = record {
   off-needs-none = refl;
   follows = refl;
   counts-each = refl;
+  start-counts = refl;
   on-the-way = refl;
   unreached = refl;
   longer-loop = refl;

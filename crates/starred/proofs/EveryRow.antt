@@ -22,6 +22,7 @@ every-row =
     and refl and refl and refl
     -- H
     and refl and refl and refl
+    and refl and refl and refl
     -- I
     and refl and refl and one-more-byte
     and done

@@ -12,10 +12,10 @@ use Rattle.model.specs.Compose.{Composed, step, initial, T, number, composed}
 use Rattle.model.specs.Choice.{Entry, output, next, entries, lowered, padRows, padded}
 use Rattle.model.specs.RunGraph.{start, meets}
 use Rattle.model.specs.Computed.{successors}
-use Rattle.model.specs.Calls.{AfterAnnotate, checkOf, findOf, judgeOf, annotateOf, writeOf, readOf, partOf}
+use Rattle.model.specs.Calls.{checkOf, findOf, judgeOf, annotateOf, writeOf, readOf, partOf}
 use Rattle.model.specs.Numbers.{replyCode, verdictCode, outcomeCode}
 use Rattle.model.specs.BenchCases.{sheetA, sheetE, edge, choiceA, bookA, bookE}
-use Rattle.starred.specs.Table.{buffer}
+use Rattle.starred.specs.Table.{buffer, annotated}
 
 -- ---- two processes that read each other
 -- variable 0 is the environment's and 1 at the start; process 0 reads variables 0 and 2, and process 1 variable 1
@@ -109,10 +109,6 @@ caseF = sheetE 1 1 1 (edge 0 0)
 abbrev pub rowOf : ℕ → ℕ → ℕ → List Entry
 rowOf outputs indexes bound = output outputs ∷ replicate indexes (next bound)
 
--- what annotate leaves where there is no loop
-abbrev pub annotated : List ℕ → AfterAnnotate
-annotated annotation = record { answer = Verdict.Found Yes; annotation = annotation }
-
 -- ---- what the definitions must give
 pub record Pinned : Type 0 where
   -- an index: not the highest variable first (1), not the bits where they stand (8), not all bits (12)
@@ -144,10 +140,12 @@ pub record Pinned : Type 0 where
   pub off-needs-none : meets (record { from = 0; to = 0; on = 0x00; off = 0x03 }) 0x05 ≡ false
   -- from automaton state 2 at (1, 0, 1): the label before the step (05) meets the first edge only; both directions
   pub follows : successors watched tables 29 ≡ 22 ∷ 21 ∷ []
-  -- each entry counts: 3 with one rejecting state; the initial vertex is no entry
-  pub counts-each : annotateOf climb climbing (buffer 4) ≡ annotated (0 ∷ 1 ∷ 2 ∷ 3 ∷ [])
+  -- each entry counts, the one at the start too: 4 with one rejecting state, which is T times the rejecting states
+  pub counts-each : annotateOf climb climbing (buffer 4) ≡ annotated (1 ∷ 2 ∷ 3 ∷ 4 ∷ [])
+  -- the start's entry is that of its automaton state: not that of state 0, nor of the state with the composed state's number
+  pub start-counts : annotateOf (ar 1 1 1 ++ pr 0 0 1 ++ au 3 2 4 ++ en) bookE (buffer 6) ≡ annotated (replicate 5 65535 ++ (1 ∷ []))
   -- a rejecting state only on the way to a loop is no fault
-  pub on-the-way : annotateOf (sheetE 1 2 1 (edge 0 1 ++ edge 1 1)) bookE (buffer 2) ≡ annotated (0 ∷ 0 ∷ [])
+  pub on-the-way : annotateOf (sheetE 1 2 1 (edge 0 1 ++ edge 1 1)) bookE (buffer 2) ≡ annotated (1 ∷ 1 ∷ [])
   -- a loop that can't be reached is no fault; its vertex is blank, and the rest of the buffer is left
   pub unreached : annotateOf (sheetE 1 2 2 (edge 1 1)) bookE (buffer 3) ≡ annotated (0 ∷ 65535 ∷ 7 ∷ [])
   -- a loop of two steps, rejecting at one of them

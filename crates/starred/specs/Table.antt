@@ -7,7 +7,7 @@ use Rattle.model.specs.declared.Finding.the-variants.{Yes, No}
 use Rattle.model.specs.declared.Verdict.{Verdict}
 use Rattle.model.specs.declared.Reply.{Reply}
 use Rattle.model.specs.declared.Outcome.{Outcome}
-use Rattle.model.specs.Calls.{AfterFind, checkOf, findOf, judgeOf, annotateOf}
+use Rattle.model.specs.Calls.{AfterFind, AfterAnnotate, checkOf, findOf, judgeOf, annotateOf}
 use Rattle.model.specs.Numbers.{replyCode}
 use Rattle.model.specs.BenchCases.{sheetA, sheetC, sheetE, edge, bookA, annotationA, bookD, bookE}
 
@@ -20,15 +20,18 @@ pub data Row : Type 0 where
   find : (sheet : List ℕ) (book annotation : ℕ) → AfterFind → Row
   judge : (sheet book annotation : List ℕ) → Verdict → Row
   annotate : (sheet book : List ℕ) (annotation : ℕ) → Verdict → Row
+  annotate-leaves : (sheet book : List ℕ) (annotation : ℕ) → AfterAnnotate → Row
   check : (sheet : List ℕ) → Reply → Row
   refuses : (sheet : List ℕ) → ℕ → Row
   refuses-behind : (sheet : List ℕ) → ℕ → Row
 
--- the call answers, and leaves in find's buffers, what is expected; a refusal by its number, in the last row with any byte behind the sheet
+-- the call answers, and leaves in the buffers of find and of the second kind of annotate, what is expected; a refusal by its number, in the last row
+-- with any byte behind the sheet
 abbrev pub Holds : Row → Type 0
 Holds (find sheet book annotation after) = findOf sheet (buffer book) (buffer annotation) ≡ after
 Holds (judge sheet book annotation verdict) = judgeOf sheet book annotation ≡ verdict
 Holds (annotate sheet book annotation verdict) = annotateOf sheet book (buffer annotation) .answer ≡ verdict
+Holds (annotate-leaves sheet book annotation after) = annotateOf sheet book (buffer annotation) ≡ after
 Holds (check sheet reply) = checkOf sheet ≡ reply
 Holds (refuses sheet n) = replyCode (checkOf sheet) ≡ n
 Holds (refuses-behind sheet n) = (x : ℕ) → replyCode (checkOf (sheet ++ (x ∷ []))) ≡ n
@@ -47,6 +50,11 @@ none book annotation = record { answer = Outcome.Nothing; book = buffer book; an
 -- tables, and buffers with this book and this annotation
 abbrev pub found : List ℕ → List ℕ → AfterFind
 found book annotation = record { answer = Outcome.Tables; book = book; annotation = annotation }
+
+-- ---- what annotate leaves
+-- this annotation
+abbrev pub annotated : List ℕ → AfterAnnotate
+annotated annotation = record { answer = Verdict.Found Yes; annotation = annotation }
 
 -- ---- the table
 -- A: the arbiter. The buffers are longer by one than they need to be
@@ -76,11 +84,14 @@ starred =
     -- F: the one state rejects and loops, also with 4 states of the process
     ∷ find (sheetE 1 1 1 (edge 0 0)) 8 1 (none 8 1)
     ∷ find (sheetE 4 1 1 (edge 0 0)) 26 4 (none 26 4)
-    -- G: E with state 0 rejecting: annotation 0
-    ∷ find (sheetE 1 1 1 []) 8 1 (found bookE (0 ∷ []))
-    -- H: E with states 0, 1 and an edge 0 to 1. Only 0 rejecting: 0, 0 is valid
+    -- G: E with state 0 rejecting: annotation 1, since the start's entry counts
+    ∷ find (sheetE 1 1 1 []) 8 1 (found bookE (1 ∷ []))
+    -- H: E with states 0, 1 and an edge 0 to 1. Only 0 rejecting: annotated 1, 1; 0, 0 is valid too
+    ∷ annotate-leaves (sheetE 1 2 1 (edge 0 1)) bookE 2 (annotated (1 ∷ 1 ∷ []))
+    ∷ judge (sheetE 1 2 1 (edge 0 1)) bookE (1 ∷ 1 ∷ []) (Verdict.Found Yes)
     ∷ judge (sheetE 1 2 1 (edge 0 1)) bookE (0 ∷ 0 ∷ []) (Verdict.Found Yes)
     -- H, where the state entered rejects: the number must rise
+    ∷ annotate-leaves (sheetE 1 2 2 (edge 0 1)) bookE 2 (annotated (0 ∷ 1 ∷ []))
     ∷ judge (sheetE 1 2 2 (edge 0 1)) bookE (0 ∷ 0 ∷ []) (Verdict.Found No)
     ∷ judge (sheetE 1 2 2 (edge 0 1)) bookE (0 ∷ 1 ∷ []) (Verdict.Found Yes)
     -- I: an empty sheet; the byte 41 alone; A and one more byte
