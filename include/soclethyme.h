@@ -49,7 +49,8 @@ uint32_t soclethyme_judge(const uint8_t *sheet, size_t sheet_len,
 
 /* Writes the exact annotation of the book at the front of `annotation` and
  * leaves the rest; or 256, where a rejecting loop is reachable, and writes
- * nothing. */
+ * nothing. A number is the most rejecting states on a path to its vertex, the
+ * first state included. */
 uint32_t soclethyme_annotate(const uint8_t *sheet, size_t sheet_len,
                              const uint8_t *book, size_t book_len,
                              uint16_t *annotation, size_t annotation_len);
