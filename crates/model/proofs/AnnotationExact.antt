@@ -19,7 +19,7 @@ use Rattle.model.specs.Mask.{bit, count}
 use Rattle.model.specs.Sheet.{Sheet, ProperSheet}
 use Rattle.model.specs.Compose.{T}
 use Rattle.model.specs.Choice.{IsChoice}
-use Rattle.model.specs.RunGraph.{vertices, automatonState, rejects, startEntries, Keeps, blank}
+use Rattle.model.specs.RunGraph.{vertices, automatonState, rejects, startRejections, Keeps, blank}
 use Rattle.model.specs.Computed.{runGraph, annotationFrom, annotation}
 use Rattle.model.specs.Demands.{Annotates}
 use Rattle.model.proofs.ComposedNumbers.{T-pos}
@@ -32,7 +32,7 @@ counted-whole k₀ s c = annotation-length (runGraph s c) k₀ blank
 
 pub annotation-whole : (s : Sheet) (c : List ℕ) → length (annotation s c) ≡ vertices s
 unfolding annotation
-annotation-whole s c = counted-whole (startEntries s) s c
+annotation-whole s c = counted-whole (startRejections s) s c
 
 -- ---- how many vertices reject
 one-bit : (r : ℕ) → r < 2 → one (eqb r 1) ≡ r
@@ -101,6 +101,6 @@ annotates s c good choice kept = record {
   whole = annotation-whole s c;
   most = most-rejections s c good choice kept;
   numbered = λ v r. omega (arith, few-rejections s c good choice kept v r, rejecting-at-most s c good);
-  others = blank-elsewhere s c good choice kept (startEntries s);
+  others = blank-elsewhere s c good choice kept (startRejections s);
   bounded = λ v r. omega (arith, few-rejections s c good choice kept v r, rejecting-few s c good);
 }

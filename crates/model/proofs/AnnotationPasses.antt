@@ -15,7 +15,7 @@ use Rattle.model.specs.Mask.{count}
 use Rattle.model.specs.Sheet.{Sheet, ProperSheet}
 use Rattle.model.specs.Compose.{T}
 use Rattle.model.specs.Choice.{IsChoice}
-use Rattle.model.specs.RunGraph.{vertices, start, rejects, startEntries, Reachable, Keeps, blank, Valid}
+use Rattle.model.specs.RunGraph.{vertices, start, rejects, startRejections, Reachable, Keeps, blank, Valid}
 use Rattle.model.specs.Computed.{runGraph, annotationFrom, annotation, valid}
 use Rattle.model.specs.Calls.{front}
 use Rattle.model.proofs.RunGraphSteps.{start-lt, step-lt, graph-finite}
@@ -31,9 +31,9 @@ same-valid s c good choice f g same h = record {
 }
 
 -- ---- counted from 0 or 1 at the start
-pub start-entries-few : (s : Sheet) → startEntries s ≤ 1
-unfolding startEntries
-start-entries-few s = one-le (rejects s (start s))
+pub start-rejections-few : (s : Sheet) → startRejections s ≤ 1
+unfolding startRejections
+start-rejections-few s = one-le (rejects s (start s))
 
 module _ (s : Sheet) (c : List ℕ) (k₀ : ℕ) where
   -- at the front of a buffer: as long as is asked, and the same numbers
@@ -69,6 +69,6 @@ module _ (s : Sheet) (c : List ℕ) (good : ProperSheet s) (choice : IsChoice (s
   unfolding annotation
   valid-bounded kept = (
     λ v. getD (annotation s c) v blank,
-    counted-valid s c (startEntries s) good choice kept (start-entries-few s),
+    counted-valid s c (startRejections s) good choice kept (start-rejections-few s),
     annotates s c good choice kept .bounded,
   )

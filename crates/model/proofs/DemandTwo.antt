@@ -15,7 +15,7 @@ use Rattle.model.specs.Mask.{if}
 use Rattle.model.specs.Sheet.{Sheet, ProperSheet}
 use Rattle.model.specs.Reading.{Reading, refused, proper, readSheet}
 use Rattle.model.specs.Choice.{IsChoice}
-use Rattle.model.specs.RunGraph.{vertices, startEntries, RejectingLoop, Keeps, blank, Valid}
+use Rattle.model.specs.RunGraph.{vertices, startRejections, RejectingLoop, Keeps, blank, Valid}
 use Rattle.model.specs.Computed.{loops, annotationFrom, annotation, valid}
 use Rattle.model.specs.Book.{bookOf, readBook}
 use Rattle.model.specs.Calls.{front, annotationShort, Chosen, roomFor, bookFor, bookAndRoom, judged, judgeOf, AfterAnnotate, annotatedBy, annotated, annotateOf}
@@ -26,7 +26,7 @@ use Rattle.model.proofs.BookRead.{choice-read, read-choice}
 use Rattle.model.proofs.BookCalls.{all-books}
 use Rattle.model.proofs.ComputedTests.{loops-exactly, valid-exactly, path-lt, blank-elsewhere, counted-from}
 use Rattle.model.proofs.AnnotationExact.{counted-whole, annotates}
-use Rattle.model.proofs.AnnotationPasses.{start-entries-few, front-long, front-number, front-valid}
+use Rattle.model.proofs.AnnotationPasses.{start-rejections-few, front-long, front-number, front-valid}
 
 not-true-false : (b : Bool) → ¬ (b ≡ true) → b ≡ false
 not-true-false true n = absurd (n refl)
@@ -186,7 +186,7 @@ pub passes-judge : (sheet book ann : List ℕ) → Weighed sheet book ann Keeps 
 unfolding annotation
 passes-judge sheet book ann w =
     ap (λ (x : AfterAnnotate). judgeOf sheet book (x .annotation)) (annotate-kept sheet book ann w)
-    ∙ passes-from (startEntries (w .read)) (start-entries-few (w .read)) sheet book ann ann w
+    ∙ passes-from (startRejections (w .read)) (start-rejections-few (w .read)) sheet book ann ann w
 
 -- what annotate wrote, and the same counted from 0
 older : (sheet book ann : List ℕ) (w : Weighed sheet book ann Keeps) → Older (w .read) (w .choice) (annotateOf sheet book ann .annotation) (annotationFrom 0 (w .read) (w .choice))
@@ -198,8 +198,8 @@ older sheet book ann w =
     record {
       whole = counted-whole 0 s c;
       lower = λ v r.
-          sym (counted-from s c good (w .is-choice) (w .holds) (startEntries s) v r)
-          ∙ front-number s c (startEntries s) ann v (path-lt s c good (w .is-choice) (r .1))
+          sym (counted-from s c good (w .is-choice) (w .holds) (startRejections s) v r)
+          ∙ front-number s c (startRejections s) ann v (path-lt s c good (w .is-choice) (r .1))
           ∙ ap (λ (x : AfterAnnotate). getD (x .annotation) v blank) (sym (annotate-kept sheet book ann w));
       others = blank-elsewhere s c good (w .is-choice) (w .holds) 0;
     }
