@@ -25,7 +25,7 @@ use Rattle.model.proofs.Refusing.{go}
 use Rattle.model.proofs.AnnotationExact.{annotation-whole}
 use Rattle.sheet.specs.declared.Reading.{Reading}
 use Rattle.sheet.specs.Struct.{sheetOf, readingOf}
-use Rattle.graph.proofs.TablesOfChoice.{vertices-few}
+use Rattle.model.proofs.RunGraphSteps.{vertices-few}
 use Rattle.sizes.proofs.SheetRead.{reading-is}
 use Rattle.text.specs.Text.{greatestText, loopText, refusedText}
 use Rattle.words.specs.Words.{bytesOf}

@@ -24,7 +24,7 @@ use Rattle.model.proofs.ProperSheet.{sheet-proper}
 use Rattle.model.proofs.BookRead.{read-choice}
 use Rattle.model.proofs.ComputedTests.{valid-exactly}
 use Rattle.model.proofs.AnnotationPasses.{same-valid}
-use Rattle.graph.proofs.TablesOfChoice.{vertices-few}
+use Rattle.model.proofs.RunGraphSteps.{vertices-few}
 use Rattle.sizes.proofs.BookFront.{book-front}
 use Rattle.words.specs.Words.{wordsOf}
 use Rattle.words.proofs.WordLaws.{words-front}

@@ -3,7 +3,7 @@ use mathlib.Core.Path.{_≡_, refl, sym, ap, _∙_}
 use mathlib.Core.Bool.{Bool}
 use mathlib.Core.List.{List}
 use Prim.Native.Nat.{ℕ, zero, suc, _+_, _*_, _/_, _%_, _^_, _≤_, _<_}
-use native.Mathlib.Nat.{mul-comm, mul-le-mul, mul-le-mul-left, mod-lt, suc-mul, pow-suc, div-div-eq-div-mul, div-one, add-mul, add-zero, add-suc, zero-mul}
+use native.Mathlib.Nat.{mul-comm, mul-le-mul-left, mod-lt, suc-mul, pow-suc, div-div-eq-div-mul, div-one, add-mul, add-zero, add-suc, zero-mul}
 use native.Mathlib.Omega.{arith}
 use lib.Dec.{eqb}
 use lib.Arith.{digits-div}
@@ -23,6 +23,7 @@ use Rattle.model.specs.RunGraph.{vertices, automatonState, rejects, star
 use Rattle.model.specs.Computed.{runGraph, annotationFrom, annotation}
 use Rattle.model.specs.Demands.{Annotates}
 use Rattle.model.proofs.ComposedNumbers.{T-pos}
+use Rattle.model.proofs.RunGraphSteps.{vertices-few}
 use Rattle.model.proofs.ComputedTests.{most-rejections, blank-elsewhere, few-rejections}
 
 -- ---- its length, counted from any number at the start
@@ -92,8 +93,8 @@ rejecting-few s c good =
 
 -- the numbers stay far below blank
 pub rejecting-at-most : (s : Sheet) (c : List ℕ) → ProperSheet s → rejecting-vertices (runGraph s c) ≤ 4096
-unfolding rejecting-vertices runGraph vertices T
-rejecting-at-most s c good = omega (arith, count-le (runGraph s c .rejects) (vertices s), mul-le-mul (good .automaton .few-states) (good .architecture .few-composed))
+unfolding rejecting-vertices runGraph
+rejecting-at-most s c good = omega (arith, count-le (runGraph s c .rejects) (vertices s), vertices-few s good)
 
 pub annotates : (s : Sheet) (c : List ℕ) → ProperSheet s → IsChoice (s .architecture) c → Keeps s c → Annotates s c (annotation s c)
 unfolding annotation

@@ -20,7 +20,8 @@ use Rattle.annotation.specs.declared.Answer.{Answer}
 use Rattle.annotation.specs.Answers.{Says}
 use Rattle.annotation.specs.Tables.{tableGraph}
 use Rattle.model.specs.Choice.{chosen}
-use Rattle.graph.proofs.TablesOfChoice.{vertices-few, shape-size}
+use Rattle.model.proofs.RunGraphSteps.{vertices-few}
+use Rattle.graph.proofs.TablesOfChoice.{shape-size}
 use Rattle.graph.proofs.TablesAreRunGraph.{tables-sized, tables-loop, tables-annotation}
 use Rattle.judging.proofs.RoomForNumbers.{too-short, long-enough}
 use Rattle.judging.proofs.annotate_tables.Statement.{statement}

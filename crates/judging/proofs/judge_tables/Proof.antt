@@ -11,7 +11,8 @@ use Rattle.model.specs.Computed.{valid}
 use Rattle.model.specs.Calls.{judged, roomFor}
 use Rattle.sheet.specs.Struct.{sheetOf}
 use Rattle.model.specs.Choice.{chosen}
-use Rattle.graph.proofs.TablesOfChoice.{vertices-few, shape-size}
+use Rattle.model.proofs.RunGraphSteps.{vertices-few}
+use Rattle.graph.proofs.TablesOfChoice.{shape-size}
 use Rattle.graph.proofs.TablesAreRunGraph.{tables-sized, tables-judge}
 use Rattle.judging.proofs.RoomForNumbers.{too-short, long-enough}
 use Rattle.judging.proofs.judge_tables.Statement.{statement}

@@ -6,7 +6,7 @@ use borrow.Author.Needs.{needs}
 use Rattle.model.specs.RunGraph.{vertices}
 use Rattle.automaton.specs.Struct.{automatonOf}
 use Rattle.sheet.specs.Struct.{sheetOf}
-use Rattle.graph.proofs.TablesOfChoice.{vertices-few}
+use Rattle.model.proofs.RunGraphSteps.{vertices-few}
 use Rattle.sizes.proofs.vertices.Statement.{statement}
 use Rattle.sizes.proofs.vertices.Tie as tie
 

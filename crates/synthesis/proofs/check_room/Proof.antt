@@ -13,7 +13,7 @@ use Rattle.architecture.specs.Struct.{IsProper}
 use Rattle.automaton.specs.Struct.{automatonOf}
 use Rattle.sheet.specs.Struct.{sheetOf}
 use Rattle.sheet.proofs.AnswersOfReading.{architecture-proper}
-use Rattle.graph.proofs.TablesOfChoice.{vertices-few}
+use Rattle.model.proofs.RunGraphSteps.{vertices-few}
 use Rattle.synthesis.proofs.check_room.Statement.{statement}
 use Rattle.synthesis.proofs.check_room.Tie as tie
 
