@@ -61,6 +61,14 @@ pub fn case_a() -> Sheet {
     }
 }
 
+/// A with its two waiting edges as the specification lists them with unless.
+pub fn case_a_unless() -> Sheet {
+    let mut sheet = case_a();
+    sheet.edges[4] = Edge::unless(1, 1, 0x04, 0x00);
+    sheet.edges[5] = Edge::unless(2, 2, 0x08, 0x00);
+    sheet
+}
+
 /// A with another bound.
 fn case_a_with_bound(bound: u8) -> Sheet {
     Sheet {
@@ -108,6 +116,23 @@ pub fn case_f(bound: u8) -> Sheet {
     }
 }
 
+/// F with bound 1, whose edge says unless and so is never met.
+pub fn case_f_unless() -> Sheet {
+    Sheet {
+        edges: vec![Edge::unless(0, 0, 0, 0)],
+        ..case_f(1)
+    }
+}
+
+/// E with so many edges of both kinds by turns.
+fn case_e_with_edges(count: usize) -> Sheet {
+    let kinds = [Edge::new, Edge::unless];
+    Sheet {
+        edges: (0..count).map(|k| kinds[k % 2](0, 0, 0, 0)).collect(),
+        ..case_e()
+    }
+}
+
 /// E with state 0 rejecting.
 pub fn case_g() -> Sheet {
     Sheet {
@@ -144,6 +169,7 @@ pub fn case_j() -> Sheet {
 pub fn proper_cases() -> Vec<(&'static str, Sheet)> {
     vec![
         ("case A", case_a()),
+        ("case A, unless", case_a_unless()),
         ("case B", case_b()),
         ("case C, bounds 1 and 1", case_c(1, 1)),
         ("case C, bounds 2 and 1", case_c(2, 1)),
@@ -152,10 +178,12 @@ pub fn proper_cases() -> Vec<(&'static str, Sheet)> {
         ("case E", case_e()),
         ("case F, bound 1", case_f(1)),
         ("case F, bound 4", case_f(4)),
+        ("case F, unless", case_f_unless()),
         ("case G", case_g()),
         ("case H, 0 rejecting", case_h(REJECTING_0)),
         ("case H, 1 rejecting", case_h(REJECTING_1)),
         ("case J", case_j()),
+        ("64 edges", case_e_with_edges(64)),
     ]
 }
 
@@ -174,8 +202,15 @@ pub fn refused_cases() -> Vec<RefusedCase> {
         let sheet = case_a_with_bound(bound);
         cases.push(("case K, bound", sheet.bytes(), WRONG_PROCESS));
     }
-    let shared = case_k_shared_bit().bytes();
-    cases.push(("case K, shared bit", shared, WRONG_EDGE));
+    for shared in [Edge::new, Edge::unless] {
+        let mut sheet = case_a();
+        sheet.edges[0] = shared(0, 0, 0x01, 0x01);
+        cases.push(("case K, shared bit", sheet.bytes(), WRONG_EDGE));
+    }
+    for count in [65, 66] {
+        let sheet = case_e_with_edges(count);
+        cases.push(("65 edges and more", sheet.bytes(), WRONG_MARK));
+    }
     cases
 }
 
@@ -196,12 +231,5 @@ fn cases_i() -> Vec<RefusedCase> {
 fn case_j_and_third() -> Sheet {
     let mut sheet = case_j();
     sheet.processes.push(Process::new(0, 0, 2));
-    sheet
-}
-
-/// A with an edge whose masks share a bit.
-fn case_k_shared_bit() -> Sheet {
-    let mut sheet = case_a();
-    sheet.edges[0] = Edge::new(0, 0, 0x01, 0x01);
     sheet
 }

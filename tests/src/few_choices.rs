@@ -87,7 +87,19 @@ fn set_requirements(rng: &mut Rng, sheet: &mut Sheet) {
     if rng.one_in(8) {
         sheet.states = rng.within(sheet.states as usize, MOST_STATES) as u8;
     }
+    say_unless(rng, sheet);
     renumber(rng, sheet);
+}
+
+/// Turns the edges with one variable into such that are met unless it has the
+/// other value, one in two: they mean the same.
+fn say_unless(rng: &mut Rng, sheet: &mut Sheet) {
+    for edge in &mut sheet.edges {
+        if (edge.on | edge.off).is_power_of_two() && rng.one_in(2) {
+            (edge.on, edge.off) = (edge.off, edge.on);
+            edge.unless = !edge.unless;
+        }
+    }
 }
 
 /// Whenever there is a cause, some output comes to be on, or off.
@@ -101,8 +113,14 @@ fn require_response(rng: &mut Rng, sheet: &mut Sheet) {
     add_edge(sheet, pending, pending, lack);
 }
 
-/// In this state some values are forbidden, those of outputs among them.
+/// In this state some values are forbidden, those of outputs among them; or all
+/// others are.
 fn forbid_in(rng: &mut Rng, sheet: &mut Sheet, state: u8) {
+    if rng.one_in(4) {
+        let (on, off) = edge_masks(rng, sheet, 0, 2);
+        sheet.edges.push(Edge::unless(state, VIOLATED, on, off));
+        return;
+    }
     let (others, outputs) = (rng.below(2), rng.within(1, 2));
     let forbidden = edge_masks(rng, sheet, others, outputs);
     add_edge(sheet, state, VIOLATED, forbidden);

@@ -23,12 +23,13 @@ pub struct JointCounter {
     pub falling: bool,
 }
 
-/// The counter with the greatest number that 64 edges allow with T = 256.
+/// The counter with the greatest number that there can be: each of the 4,096
+/// vertices is entered once.
 pub const LONGEST_COUNTER: JointCounter = JointCounter {
     environment: 0,
     bounds: [4; 4],
     processes: 4,
-    rounds: 13,
+    rounds: 16,
     states: 16,
     closed: false,
     falling: false,
@@ -43,10 +44,9 @@ impl JointCounter {
         }
     }
 
-    /// The one with most rounds that leads into the first again.
+    /// The longest one, whose last round leads into the first again.
     pub fn longest_closed(falling: bool) -> Self {
         JointCounter {
-            rounds: 12,
             closed: true,
             ..JointCounter::longest(falling)
         }
@@ -57,7 +57,6 @@ impl JointCounter {
         JointCounter {
             environment: 4,
             processes: 2,
-            rounds: 16,
             closed,
             ..JointCounter::longest(falling)
         }
@@ -119,15 +118,14 @@ impl JointCounter {
         }
     }
 
-    /// A round lasts while some process is not in its last state.
+    /// A round lasts unless all processes are in their last states.
     fn edges(&self) -> Vec<Edge> {
+        let all = self.outputs_below(self.processes);
         let mut edges = Vec::new();
         for from in 0..self.rounds {
-            let lasting = |process| Edge::new(from, from, 0, self.output(process));
-            edges.extend((0..self.processes).map(lasting));
+            edges.push(Edge::unless(from, from, all, 0));
             let to = self.after(from, self.rounds);
             if self.closed || to != self.first_round() {
-                let all = self.outputs_below(self.processes);
                 edges.push(Edge::new(from, to, all, 0));
             }
         }

@@ -2,13 +2,13 @@
 
 use crate::random_sheets;
 use crate::rng::Rng;
-use crate::sheet::{record, RecordKind, Sheet};
+use crate::sheet::{RecordKind, Sheet};
 
 /// Values next to the limits of some field.
 const LIMITS: [u8; 16] = [0, 1, 2, 3, 4, 5, 7, 8, 9, 15, 16, 17, 64, 127, 128, 255];
 
 /// The marks of sheets and books.
-pub const MARKS: [&[u8; 2]; 6] = [b"AR", b"PR", b"AU", b"ED", b"EN", b"TB"];
+pub const MARKS: [&[u8; 2]; 7] = [b"AR", b"PR", b"AU", b"ED", b"EX", b"EN", b"TB"];
 
 /// A sheet changed in a few ways at once; the first fault then decides.
 pub fn changed_sheet(rng: &mut Rng, sheet: &Sheet) -> Vec<u8> {
@@ -73,7 +73,7 @@ fn change_records(rng: &mut Rng, sheet: &Sheet, records: &mut Vec<Vec<u8>>) {
         }
         _ => {
             let edge = random_sheets::edge(rng, sheet);
-            records.insert(index, record(RecordKind::Edge, &edge.fields()));
+            records.insert(index, edge.record());
         }
     }
 }
@@ -149,7 +149,7 @@ fn random_records(rng: &mut Rng) -> Vec<u8> {
     let kinds = RecordKind::IN_ORDER;
     let mut bytes = Vec::new();
     for rank in 0..rng.below(8) {
-        let due = kinds[rank.min(4)];
+        let due = kinds[rank.min(kinds.len() - 1)];
         let kind = if rng.one_in(4) {
             *rng.pick(&kinds)
         } else {

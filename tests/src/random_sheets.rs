@@ -248,6 +248,7 @@ pub fn edge(rng: &mut Rng, sheet: &Sheet) -> Edge {
         to: state(rng, sheet.states),
         on,
         off,
+        unless: rng.one_in(3),
     }
 }
 

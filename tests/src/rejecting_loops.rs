@@ -29,7 +29,7 @@ pub fn sheet_of_shape(rng: &mut Rng, shape: Shape) -> Sheet {
     sheet
 }
 
-/// Takes bits out of the masks, so that more labels meet the edges.
+/// Takes bits out of the masks, so that more labels match them.
 fn clear_mask_bits(rng: &mut Rng, sheet: &mut Sheet) {
     for edge in &mut sheet.edges {
         edge.on &= rng.byte() & rng.byte();

@@ -23,25 +23,31 @@ pub enum RecordKind {
     Process,
     Automaton,
     Edge,
+    EdgeUnless,
     End,
 }
 
 impl RecordKind {
-    pub const IN_ORDER: [RecordKind; 5] = [
+    pub const IN_ORDER: [RecordKind; 6] = [
         RecordKind::Architecture,
         RecordKind::Process,
         RecordKind::Automaton,
         RecordKind::Edge,
+        RecordKind::EdgeUnless,
         RecordKind::End,
     ];
 
     /// All but the last.
-    pub const WITH_FIELDS: [RecordKind; 4] = [
+    pub const WITH_FIELDS: [RecordKind; 5] = [
         RecordKind::Architecture,
         RecordKind::Process,
         RecordKind::Automaton,
         RecordKind::Edge,
+        RecordKind::EdgeUnless,
     ];
+
+    /// The two kinds of edges.
+    pub const EDGES: [RecordKind; 2] = [RecordKind::Edge, RecordKind::EdgeUnless];
 
     pub fn mark(self) -> &'static [u8; 2] {
         match self {
@@ -49,6 +55,7 @@ impl RecordKind {
             RecordKind::Process => b"PR",
             RecordKind::Automaton => b"AU",
             RecordKind::Edge => b"ED",
+            RecordKind::EdgeUnless => b"EX",
             RecordKind::End => b"EN",
         }
     }
@@ -57,7 +64,7 @@ impl RecordKind {
     pub fn field_count(self) -> usize {
         match self {
             RecordKind::Architecture | RecordKind::Process => 3,
-            RecordKind::Automaton | RecordKind::Edge => 4,
+            RecordKind::Automaton | RecordKind::Edge | RecordKind::EdgeUnless => 4,
             RecordKind::End => 0,
         }
     }
@@ -95,19 +102,53 @@ pub struct Edge {
     pub to: u8,
     pub on: u8,
     pub off: u8,
+    pub unless: bool,
 }
 
 impl Edge {
+    /// An edge that is met where the masks match.
     pub fn new(from: u8, to: u8, on: u8, off: u8) -> Self {
-        Edge { from, to, on, off }
+        Edge {
+            from,
+            to,
+            on,
+            off,
+            unless: false,
+        }
     }
 
-    pub fn fields(&self) -> [u8; 4] {
-        [self.from, self.to, self.on, self.off]
+    /// An edge that is met unless the masks match.
+    pub fn unless(from: u8, to: u8, on: u8, off: u8) -> Self {
+        Edge {
+            unless: true,
+            ..Edge::new(from, to, on, off)
+        }
     }
 
+    pub fn kind(&self) -> RecordKind {
+        RecordKind::EDGES[usize::from(self.unless)]
+    }
+
+    pub fn record(&self) -> Vec<u8> {
+        record(self.kind(), &[self.from, self.to, self.on, self.off])
+    }
+
+    /// Whether some variable of the masks has the other value is what an edge
+    /// that says unless asks for, and what any other rules out.
     pub fn is_met(&self, label: u8) -> bool {
-        label & self.on == self.on && label & self.off == 0
+        let differing = self.on & !label | self.off & label;
+        (differing != 0) == self.unless
+    }
+
+    /// The edges without unless that are together met where this one is.
+    pub fn without_unless(&self) -> Vec<Edge> {
+        if !self.unless {
+            return vec![*self];
+        }
+        let variables = |mask| variables_of(mask).into_iter().map(|bit| 1 << bit);
+        let missing = variables(self.on).map(|off| Edge::new(self.from, self.to, 0, off));
+        let surplus = variables(self.off).map(|on| Edge::new(self.from, self.to, on, 0));
+        missing.chain(surplus).collect()
     }
 }
 
@@ -185,18 +226,32 @@ impl Sheet {
         let architecture = [self.variables, self.environment, self.root];
         let automaton = [self.states, self.initial, low, high];
         let processes = self.processes.iter().map(Process::fields);
-        let edges = self.edges.iter().map(Edge::fields);
 
         let mut records = vec![record(RecordKind::Architecture, &architecture)];
         records.extend(processes.map(|fields| record(RecordKind::Process, &fields)));
         records.push(record(RecordKind::Automaton, &automaton));
-        records.extend(edges.map(|fields| record(RecordKind::Edge, &fields)));
+        records.extend(self.edges.iter().map(Edge::record));
         records.push(record(RecordKind::End, &[]));
         records
     }
 
     pub fn bytes(&self) -> Vec<u8> {
         self.records().concat()
+    }
+
+    /// Whether it has edges of both kinds.
+    pub fn has_both_kinds(&self) -> bool {
+        let unless = self.edges.iter().filter(|edge| edge.unless).count();
+        0 < unless && unless < self.edges.len()
+    }
+
+    /// The same sheet without edges that say unless, if 64 edges suffice.
+    pub fn without_unless(&self) -> Option<Sheet> {
+        let edges: Vec<Edge> = self.edges.iter().flat_map(Edge::without_unless).collect();
+        (edges.len() <= MOST_EDGES).then(|| Sheet {
+            edges,
+            ..self.clone()
+        })
     }
 }
 
@@ -207,11 +262,24 @@ pub fn record(kind: RecordKind, fields: &[u8]) -> Vec<u8> {
 
 /// The sheet in the file, or the refusal of its first fault.
 pub fn read_sheet(bytes: &[u8]) -> Result<Sheet, Refusal> {
+    read_records(bytes, &mut [0; 2])
+}
+
+/// The same, with the last whole mark that was looked at: that of the first
+/// faulty record, unless the fault is in its mark or behind the end.
+pub fn read_with_mark(bytes: &[u8]) -> (Result<Sheet, Refusal>, [u8; 2]) {
+    let mut mark = [0; 2];
+    let sheet = read_records(bytes, &mut mark);
+    (sheet, mark)
+}
+
+fn read_records(bytes: &[u8], mark: &mut [u8; 2]) -> Result<Sheet, Refusal> {
     let mut rest = bytes;
     let mut sheet = Sheet::default();
     let mut last = None;
     while last != Some(RecordKind::End) {
-        let mark = take(&mut rest, 2)?;
+        *mark = [0; 2];
+        mark.copy_from_slice(take(&mut rest, 2)?);
         let kind = permitted(last, &sheet)
             .iter()
             .find(|kind| kind.mark() == mark)
@@ -239,14 +307,14 @@ fn take<'a>(rest: &mut &'a [u8], count: usize) -> Result<&'a [u8], Refusal> {
 
 /// The records that may follow the last one.
 fn permitted(last: Option<RecordKind>, sheet: &Sheet) -> &'static [RecordKind] {
-    use RecordKind::{Architecture, Automaton, Edge, End, Process};
+    use RecordKind::{Architecture, Automaton, Edge, EdgeUnless, End, Process};
     match last {
         None => &[Architecture],
         Some(Architecture) => &[Process],
         Some(Process) if sheet.processes.len() == MOST_PROCESSES => &[Automaton],
         Some(Process) => &[Process, Automaton],
-        Some(Automaton | Edge) if sheet.edges.len() == MOST_EDGES => &[End],
-        Some(Automaton | Edge) => &[Edge, End],
+        Some(Automaton | Edge | EdgeUnless) if sheet.edges.len() == MOST_EDGES => &[End],
+        Some(Automaton | Edge | EdgeUnless) => &[Edge, EdgeUnless, End],
         Some(End) => &[],
     }
 }
@@ -256,7 +324,8 @@ fn add_record(sheet: &mut Sheet, kind: RecordKind, fields: &[u8]) -> Result<(), 
         RecordKind::Architecture => add_architecture(sheet, fields),
         RecordKind::Process => add_process(sheet, fields),
         RecordKind::Automaton => add_automaton(sheet, fields),
-        RecordKind::Edge => add_edge(sheet, fields),
+        RecordKind::Edge => add_edge(sheet, fields, false),
+        RecordKind::EdgeUnless => add_edge(sheet, fields, true),
         RecordKind::End => Ok(()),
     }
 }
@@ -319,12 +388,15 @@ fn add_automaton(sheet: &mut Sheet, fields: &[u8]) -> Result<(), Refusal> {
     Ok(())
 }
 
-fn add_edge(sheet: &mut Sheet, fields: &[u8]) -> Result<(), Refusal> {
+fn add_edge(sheet: &mut Sheet, fields: &[u8], unless: bool) -> Result<(), Refusal> {
     let (from, to, on, off) = (fields[0], fields[1], fields[2], fields[3]);
     let all = mask_below(sheet.variables);
     require(from < sheet.states && to < sheet.states, WRONG_EDGE)?;
     require(within(on, all) && within(off, all), WRONG_EDGE)?;
     require(on & off == 0, WRONG_EDGE)?;
-    sheet.edges.push(Edge::new(from, to, on, off));
+    sheet.edges.push(Edge {
+        unless,
+        ..Edge::new(from, to, on, off)
+    });
     Ok(())
 }

@@ -188,7 +188,7 @@ pub fn automaton_faults(sheet: &Sheet) -> Vec<ChangedSheet> {
     copies.changed
 }
 
-/// Each ED field outside its rules, in the edge of that index.
+/// Each field outside its rules, in the edge of that index.
 pub fn edge_faults(sheet: &Sheet, index: usize) -> Vec<ChangedSheet> {
     let mut copies = ChangedCopies::new(sheet);
     let wrong = WRONG_EDGE;
@@ -251,20 +251,18 @@ fn extra_records(sheet: &Sheet, index: usize) -> Vec<(Vec<u8>, Refusal)> {
     let answer_if = |fits| if fits { 0 } else { WRONG_MARK };
 
     let records = sheet.records();
-    vec![
+    let mut extra = vec![
         (records[0].clone(), WRONG_MARK),
         (
             record(RecordKind::Process, &[0, 0, 1]),
             answer_if(process_fits),
         ),
         (records[automaton].clone(), early_automaton(sheet, index)),
-        (
-            record(RecordKind::Edge, &[0, 0, 0, 0]),
-            answer_if(edge_fits),
-        ),
         (record(RecordKind::End, &[]), WRONG_MARK),
         (b"TB\0\0\0\0".to_vec(), WRONG_MARK),
-    ]
+    ];
+    extra.extend(RecordKind::EDGES.map(|kind| (record(kind, &[0; 4]), answer_if(edge_fits))));
+    extra
 }
 
 /// The answer to one more AU. It may stand behind the first PR, but it asks for
@@ -332,12 +330,15 @@ pub fn fifth_process(sheet: &Sheet) -> Vec<ChangedSheet> {
     sheets
 }
 
-/// The 65th ED, whole and cut, in a sheet that has 64.
+/// The 65th edge, of either kind, whole and cut, in a sheet that has 64.
 pub fn surplus_edge(sheet: &Sheet) -> Vec<ChangedSheet> {
     assert_eq!(sheet.edges.len(), MOST_EDGES);
     let records = sheet.records();
     let before = &records[..records.len() - 1];
-    let mut sheets = cut_surplus(before, &record(RecordKind::Edge, &[0; 4]));
-    sheets.extend(cut_surplus(before, &record(RecordKind::Edge, &[255; 4])));
+    let mut sheets = Vec::new();
+    for kind in RecordKind::EDGES {
+        sheets.extend(cut_surplus(before, &record(kind, &[0; 4])));
+        sheets.extend(cut_surplus(before, &record(kind, &[255; 4])));
+    }
     sheets
 }

@@ -4,9 +4,11 @@ use soclethyme_tests::bench_cases::{case_a, case_j, proper_cases, refused_cases,
 use soclethyme_tests::ffi;
 use soclethyme_tests::random_faults;
 use soclethyme_tests::random_sheets::{self, shapes, Shape};
-use soclethyme_tests::refusal::{CUT_OFF, SHEET_REFUSALS, WRONG_MARK};
+use soclethyme_tests::refusal::{CUT_OFF, SHEET_REFUSALS, WRONG_EDGE, WRONG_MARK};
 use soclethyme_tests::rng::Rng;
-use soclethyme_tests::sheet::{read_sheet, Sheet, LONGEST_SHEET, MOST_COMPOSED};
+use soclethyme_tests::sheet::{
+    read_sheet, read_with_mark, RecordKind, Sheet, LONGEST_SHEET, MOST_COMPOSED,
+};
 use soclethyme_tests::single_faults::{self, ChangedSheet};
 use soclethyme_tests::tally::Tally;
 use soclethyme_tests::text::hex;
@@ -20,9 +22,13 @@ const MIDDLE_SHAPE: Shape = Shape {
     processes: 3,
 };
 
+const REFUSED_AT_EX: &str = "refused at an EX";
+const BOTH_KINDS: &str = "edges of both kinds";
+
 /// Holds the library's answer against the independent one.
 fn compare(tally: &mut Tally, bytes: &[u8]) -> u32 {
-    let own = read_sheet(bytes).err().unwrap_or(0);
+    let (read, mark) = read_with_mark(bytes);
+    let own = read.err().unwrap_or(0);
     let library = ffi::check(bytes);
     assert_eq!(
         library,
@@ -33,6 +39,9 @@ fn compare(tally: &mut Tally, bytes: &[u8]) -> u32 {
     );
     tally.count("check", own);
     tally.count("length of a sheet", bytes.len());
+    if own != 0 && mark == *RecordKind::EdgeUnless.mark() {
+        tally.count(REFUSED_AT_EX, own);
+    }
     own
 }
 
@@ -63,6 +72,7 @@ fn count_properties(tally: &mut Tally, sheet: &Sheet) {
     tally.count("initial state", sheet.initial);
     tally.count("rejecting states", sheet.rejecting.count_ones());
     tally.count("edges", sheet.edges.len());
+    tally.count(BOTH_KINDS, sheet.has_both_kinds());
     tally.count("length", sheet.bytes().len());
     for process in &sheet.processes {
         tally.count("inputs", process.inputs.count_ones());
@@ -87,6 +97,7 @@ fn assert_properties(tally: &Tally) {
     tally.assert_often("initial state", 0..=15, often);
     tally.assert_often("rejecting states", 0..=16, often);
     tally.assert_often("edges", 0..=64, often);
+    tally.assert_often(BOTH_KINDS, [true], tally.total(BOTH_KINDS) / 3);
     tally.assert_often("length", [18, LONGEST_SHEET], often);
     tally.assert_often("inputs", 0..=4, often);
     tally.assert_often("outputs", 0..=8, often);
@@ -288,6 +299,9 @@ fn check_agrees_on_generated_sheets() {
     tally.assert_often("check", [0], 10_000);
     tally.assert_often("check", SHEET_REFUSALS, 5_000);
     tally.assert_only("check", 0..=7);
+    let at_ex = [CUT_OFF, WRONG_MARK, WRONG_EDGE];
+    tally.assert_often(REFUSED_AT_EX, at_ex, 2_000);
+    tally.assert_only(REFUSED_AT_EX, at_ex);
 }
 
 /// The library and the independent reading both give the stated answer.

@@ -86,10 +86,10 @@ fn fast_enumeration_agrees_on_input_masks() {
 fn fast_enumeration_agrees_on_cases() {
     for (name, sheet) in proper_cases() {
         let found = agreed(sheet);
-        let none = ["case B", "case C", "case F"];
+        let none = ["case B", "case C", "case F, bound"];
         let expected = !none.iter().any(|none| name.starts_with(none));
         assert_eq!(found.is_some(), expected, "{name}");
-        if let Some(case_a) = found.filter(|_| name == "case A") {
+        if let Some(case_a) = found.filter(|_| name.starts_with("case A")) {
             assert_eq!((case_a.before, case_a.book), (2_016, BOOK_A.to_vec()));
         }
     }

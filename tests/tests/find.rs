@@ -2,8 +2,9 @@
 //! buffers between guards, and every lent byte is compared after it.
 
 use soclethyme_tests::bench_cases::{
-    case_a, case_b, case_c, case_d, case_e, case_f, case_g, case_h, case_j, refused_cases,
-    ANNOTATION_A, BOOK_A, BOOK_E, REJECTING_0, REJECTING_1, SHEET_A, TEXT_A, TEXT_D,
+    case_a, case_a_unless, case_b, case_c, case_d, case_e, case_f, case_f_unless, case_g, case_h,
+    case_j, refused_cases, ANNOTATION_A, BOOK_A, BOOK_E, REJECTING_0, REJECTING_1, SHEET_A, TEXT_A,
+    TEXT_D,
 };
 use soclethyme_tests::book::{layout, LONGEST_BOOK};
 use soclethyme_tests::choices::{self, choice_count, FoundChoice};
@@ -116,6 +117,8 @@ impl SearchedSheet {
     }
 }
 
+const BOTH_KINDS: &str = "edges of both kinds";
+
 /// From so many choices on they are many, and one after so many is late.
 const MANY: u64 = 1_000;
 
@@ -129,6 +132,7 @@ fn count_properties(tally: &mut Tally, searched: &SearchedSheet) {
     tally.count("length of a book", book);
     tally.count("length of an annotation", annotation);
     tally.count("none", before.is_none());
+    tally.count(BOTH_KINDS, sheet.has_both_kinds());
     tally.count("none of many choices", before.is_none() && many_choices);
     tally.count("not all zeros", before > Some(0));
     tally.count("found late", before >= Some(MANY));
@@ -249,6 +253,7 @@ fn finds_agree_on_few_choices() {
     assert_eq!(tally.total("none"), SHEETS);
     tally.assert_often("none", [true], SHEETS / 4);
     tally.assert_often("none of many choices", [true], SHEETS / 12);
+    tally.assert_often(BOTH_KINDS, [true], SHEETS / 3);
     tally.assert_often("not all zeros", [true], SHEETS / 3);
     tally.assert_often("found late", [true], SHEETS / 20);
     tally.assert_often("found, the start rejecting", [true], SHEETS / 20);
@@ -301,6 +306,7 @@ fn finds_agree_on_high_variables() {
     tally.print("sheets with high variables searched");
 
     tally.assert_often("none", [true], SHEETS_WITH_HIGH / 20);
+    tally.assert_often(BOTH_KINDS, [true], SHEETS_WITH_HIGH / 3);
     tally.assert_often("not all zeros", [true], SHEETS_WITH_HIGH / 10);
     tally.assert_often(INPUT_COUNT, 0..=2, SHEETS_WITH_HIGH / 10);
     tally.assert_often(READS_HIGHEST, [true], SHEETS_WITH_HIGH / 10);
@@ -491,8 +497,10 @@ fn assert_refused_cases(letter: &str, count: usize) {
 #[test]
 fn bench_case_a() {
     assert_eq!(case_a().bytes(), SHEET_A);
-    assert_found(case_a(), &BOOK_A, &ANNOTATION_A);
-    assert_printed(case_a(), TEXT_A);
+    for sheet in [case_a(), case_a_unless()] {
+        assert_found(sheet.clone(), &BOOK_A, &ANNOTATION_A);
+        assert_printed(sheet, TEXT_A);
+    }
 }
 
 #[test]
@@ -512,6 +520,7 @@ fn bench_cases_e_to_h() {
     assert_found(case_e(), &BOOK_E, &[0]);
     assert_eq!(find(case_f(1)), None);
     assert_eq!(find(case_f(4)), None);
+    assert_found(case_f_unless(), &BOOK_E, &[1]);
     assert_found(case_g(), &BOOK_E, &[1]);
     assert_found(case_h(REJECTING_0), &BOOK_E, &[1, 1]);
     assert_found(case_h(REJECTING_1), &BOOK_E, &[0, 1]);
@@ -533,6 +542,7 @@ fn bench_case_j() {
 }
 
 #[test]
-fn bench_case_k() {
-    assert_refused_cases("case K", 3);
+fn bench_case_k_and_edges() {
+    assert_refused_cases("case K", 4);
+    assert_refused_cases("65 edges", 2);
 }

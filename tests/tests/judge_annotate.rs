@@ -86,6 +86,7 @@ impl BookGraph {
     }
 }
 
+const BOTH_KINDS: &str = "edges of both kinds";
 const STARTS_REJECTING: &str = "annotated, the start rejecting";
 const BOUND_REACHED: &str = "bound reached, the start rejecting";
 
@@ -93,8 +94,9 @@ const BOUND_REACHED: &str = "bound reached, the start rejecting";
 fn count_properties(tally: &mut Tally, graph: &BookGraph) {
     tally.count("rejecting loop", graph.annotation.is_none());
     tally.count("vertices", graph.vertices());
+    let sheet = read_sheet(&graph.sheet).expect("a proper sheet");
+    tally.count(BOTH_KINDS, sheet.has_both_kinds());
     if let Some(annotation) = &graph.annotation {
-        let sheet = read_sheet(&graph.sheet).expect("a proper sheet");
         let greatest = usize::from(greatest_number(annotation));
         tally.count("greatest number", greatest);
         count_start(tally, graph.graph(), greatest == sheet.number_bound());
@@ -368,6 +370,8 @@ fn verdicts_agree_on_generated_books() {
     assert!(tally.total("annotate") >= 100_000);
     tally.assert_often("rejecting loop", [false, true], 1_000);
     assert_eq!(tally.greatest("vertices"), Some(MOST_VERTICES as u64));
+    assert_eq!(tally.greatest("greatest number"), Some(MOST_VERTICES as u64));
+    tally.assert_often(BOTH_KINDS, [true], tally.total(BOTH_KINDS) / 3);
     let starts = tally.total(STARTS_REJECTING);
     tally.assert_often(STARTS_REJECTING, [false, true], starts / 5);
     tally.assert_often(BOUND_REACHED, [true], 40);
@@ -476,7 +480,7 @@ fn harmless_loops() {
 fn longest_counter_numbers_every_vertex() {
     let input = LONGEST_COUNTER.with_book();
     let mut annotation = vec![BLANK; MOST_VERTICES];
-    for (position, number) in annotation[..13 * 256].iter_mut().enumerate() {
+    for (position, number) in annotation.iter_mut().enumerate() {
         *number = position as u16 + 1;
     }
     assert_annotated(&input.proper.bytes, &input.book, &annotation);

@@ -1,5 +1,6 @@
 -- What the structs of an automaton and of its edges stand for in the model, and what is asked of them. These are definitions.
 use mathlib.Core.Path.{_≡_}
+use mathlib.Core.Bool.{Bool, false}
 use mathlib.Core.List.{List, [], _∷_, _++_}
 use Prim.Native.Nat.{ℕ, zero, suc, _≤_}
 use lib.ListN.{length, getD}
@@ -11,24 +12,24 @@ use Rattle.automaton.specs.declared.Automaton.{Automaton}
 
 -- the edge of the struct
 abbrev pub edgeOf : Edge → model.Edge
-edgeOf e = record { from = e .from .0; to = e .to .0; on = e .on; off = e .off }
+edgeOf e = record { from = e .from .0; to = e .to .0; on = e .on; off = e .off; unless = e .unless }
 
--- entry i of four arrays, as an edge
-abbrev pub edgeAt : List AutomatonState → List AutomatonState → List ℕ → List ℕ → ℕ → model.Edge
-edgeAt f t p q i = record { from = getD f i (record { 0 = 0 }) .0; to = getD t i (record { 0 = 0 }) .0; on = getD p i 0; off = getD q i 0 }
+-- entry i of five arrays, as an edge
+abbrev pub edgeAt : List AutomatonState → List AutomatonState → List ℕ → List ℕ → List Bool → ℕ → model.Edge
+edgeAt f t p q k i = record { from = getD f i (record { 0 = 0 }) .0; to = getD t i (record { 0 = 0 }) .0; on = getD p i 0; off = getD q i 0; unless = getD k i false }
 
 -- the first n entries, as edges
-unfoldable pub edgesOf : ℕ → List AutomatonState → List AutomatonState → List ℕ → List ℕ → List model.Edge
-edgesOf zero f t p q = []
-edgesOf (suc n) f t p q = edgesOf n f t p q ++ (edgeAt f t p q n ∷ [])
+unfoldable pub edgesOf : ℕ → List AutomatonState → List AutomatonState → List ℕ → List ℕ → List Bool → List model.Edge
+edgesOf zero f t p q k = []
+edgesOf (suc n) f t p q k = edgesOf n f t p q k ++ (edgeAt f t p q k n ∷ [])
 
 -- edge i of an automaton
 abbrev pub edgeIn : Automaton → ℕ → model.Edge
-edgeIn u i = edgeAt (u .from) (u .to) (u .on) (u .off) i
+edgeIn u i = edgeAt (u .from) (u .to) (u .on) (u .off) (u .unless) i
 
 -- the first n edges
 abbrev pub firstIn : Automaton → ℕ → List model.Edge
-firstIn u n = edgesOf n (u .from) (u .to) (u .on) (u .off)
+firstIn u n = edgesOf n (u .from) (u .to) (u .on) (u .off) (u .unless)
 
 -- the automaton of the struct
 unfoldable pub automatonOf : Automaton → model.Automaton
@@ -42,6 +43,7 @@ pub record Arrays (u : Automaton) : Type 0 where
   pub to-long : length (u .to) ≡ 64
   pub on-long : length (u .on) ≡ 64
   pub off-long : length (u .off) ≡ 64
+  pub unless-long : length (u .unless) ≡ 64
 
 -- the struct holds a proper automaton over so many variables
 pub record IsProper (variables : ℕ) (u : Automaton) : Type 0 where

@@ -1,21 +1,22 @@
-// A universal co-Büchi automaton: what AU and the ED records of a sheet say.
+// A universal co-Büchi automaton: what AU and the ED and EX records of a sheet say.
 ghost use mathlib.Core.Path.{_≡_};
 ghost use mathlib.Core.List.{[]};
 ghost use Prim.Native.Nat.{_+_, _<_};
 ghost use Rattle.model.specs.Sheet as model;
-ghost use Rattle.model.specs.RunGraph.{meets};
+ghost use Rattle.model.specs.RunGraph.{matches, meets};
 ghost use Rattle.automaton.specs.Struct.{Arrays, edgeOf, edgeIn, automatonOf};
 use model::AutomatonState;
 
-// Between automaton states, met by a label with all of `on` and none of `off`.
+// Between automaton states: an ED is met by a label with all of `on` and none of `off`, an EX, which says unless, by any other.
 pub struct Edge {
     pub from: AutomatonState,
     pub to: AutomatonState,
     pub on: u8,
     pub off: u8,
+    pub unless: bool,
 }
 
-// The first `edges` of from, to, on and off count.
+// The first `edges` of from, to, on, off and unless count.
 pub struct Automaton {
     pub states: u8,
     pub initial: AutomatonState,
@@ -25,17 +26,25 @@ pub struct Automaton {
     pub to: [AutomatonState; 64],
     pub on: [u8; 64],
     pub off: [u8; 64],
+    pub unless: [bool; 64],
 }
 
 impl Edge {
     // The label has all of the on mask and none of the off mask.
-    pub fn is_met(self, label: u8) -> bool
-        ensures { λ r. ⌜ r ≡ meets (edgeOf self) label ⌝ }
+    fn matches(self, label: u8) -> bool
+        ensures { λ r. ⌜ r ≡ matches (edgeOf self) label ⌝ }
     {
         if self.on & label != self.on {
             return false;
         }
         self.off & label == 0
+    }
+
+    // The label meets an ED that it matches, and an EX that it does not.
+    pub fn is_met(self, label: u8) -> bool
+        ensures { λ r. ⌜ r ≡ meets (edgeOf self) label ⌝ }
+    {
+        self.matches(label) != self.unless
     }
 }
 
@@ -54,10 +63,11 @@ impl Automaton {
             to: [AutomatonState(0); 64],
             on: [0; 64],
             off: [0; 64],
+            unless: [false; 64],
         }
     }
 
-    // One ED more.
+    // One edge more.
     pub fn with_edge(mut self, edge: Edge) -> Automaton
         requires { ⌜ Arrays self ⌝ }
         requires { ⌜ self .edges < 64 ⌝ }
@@ -71,6 +81,7 @@ impl Automaton {
         self.to[n] = to;
         self.on[n] = edge.on;
         self.off[n] = edge.off;
+        self.unless[n] = edge.unless;
         self.edges = n + 1;
         self
     }
@@ -85,11 +96,13 @@ impl Automaton {
         let to = self.to;
         let on = self.on;
         let off = self.off;
+        let unless = self.unless;
         Edge {
             from: from[i],
             to: to[i],
             on: on[i],
             off: off[i],
+            unless: unless[i],
         }
     }
 }

@@ -34,6 +34,13 @@ pub fn check(case: &[u8], sheet: &[u8]) {
     }
 }
 
+// Checks so many bytes of the sheet.
+pub fn check_front(case: &[u8], sheet: &[u8], bytes: usize)
+    requires { ⌜ bytes ≤ length (now sheet) ⌝ }
+{
+    check(case, &sheet[0..bytes]);
+}
+
 // How many rows the book has: each opens with TB, which stands nowhere else in a book.
 fn rows(book: &[u8]) -> u64 {
     let mut count: u64 = 0;

@@ -5,6 +5,7 @@ mod sheets;
 
 use calls::annotate;
 use calls::check;
+use calls::check_front;
 use calls::find;
 use calls::judge;
 use calls::part;
@@ -20,9 +21,13 @@ use sheets::CASE_F;
 use sheets::CASE_H;
 use sheets::CASE_J;
 use sheets::CASE_J_THIRD;
+use sheets::KIND;
+use sheets::KIND_F;
 use sheets::OFF;
 use sheets::REJECTING;
 use sheets::bounded;
+use sheets::edges_then;
+use sheets::waiting_unless;
 
 // The arbiter: found, and its book annotated, read, written again and parted. There is no process 1.
 fn case_a() {
@@ -34,6 +39,14 @@ fn case_a() {
     reread(b"A", &sheet, &book);
     part(b"A", &sheet, &book, 0);
     part(b"A", &sheet, &book, 1);
+}
+
+// A whose waiting edges say unless: the same tables, and the same annotation.
+fn case_a_unless() {
+    let sheet = waiting_unless();
+    check(b"A unless", &sheet);
+    find(b"A unless", &sheet, 20, 32);
+    annotate(b"A unless", &sheet, &BOOK_A, 32);
 }
 
 // A with one state, which cannot grant to each in turn.
@@ -65,13 +78,16 @@ fn case_e() {
     find(b"E", &CASE_E, 8, 1);
 }
 
-// A rejecting loop that no table avoids, with the bounds 1 and 4.
+// A rejecting loop that no table avoids, with the bounds 1 and 4. As an EX its edge is never met.
 fn case_f() {
     let mut sheet = CASE_F;
     find(b"F 1", &sheet, 8, 1);
     annotate(b"F 1", &sheet, &BOOK_E, 1);
     sheet[BOUND] = 4;
     find(b"F 4", &sheet, 26, 4);
+    sheet[BOUND] = 1;
+    sheet[KIND_F] = b'X';
+    find(b"F unless", &sheet, 8, 1);
 }
 
 // E with state 0 rejecting: no step enters it, but the start is an entry.
@@ -122,10 +138,24 @@ fn case_k() {
     sheet[BOUND] = 2;
     sheet[OFF] = 0x01;
     check(b"K on 01 off 01", &sheet);
+    sheet[KIND] = b'X';
+    check(b"K unless on 01 off 01", &sheet);
+}
+
+// 64 edges of both kinds are proper. A 65th of either is a mark that may not stand there, however few bytes follow it.
+fn edges() {
+    let end = edges_then(b'N');
+    check_front(b"64 edges", &end, 402);
+    check_front(b"64 edges, the last cut off", &end, 399);
+    check(b"65 edges, the last ED", &edges_then(b'D'));
+    let ex = edges_then(b'X');
+    check(b"65 edges, the last EX", &ex);
+    check_front(b"65 edges, the last cut off", &ex, 402);
 }
 
 fn main() {
     case_a();
+    case_a_unless();
     case_b();
     case_c();
     case_d();
@@ -136,4 +166,5 @@ fn main() {
     case_i();
     case_j();
     case_k();
+    edges();
 }

@@ -1,6 +1,8 @@
 // The sheets of the bench cases, and books for some. Case A's sheet is the library's own.
 ghost use mathlib.Core.Path.{_≡_};
+ghost use Prim.Native.Nat.{_+_, _≤_};
 ghost use lib.ListN.{length};
+use sheet::CASE_A;
 
 // ---- where the cases differ: bytes of a sheet
 // The bound of process 0, in every sheet here.
@@ -15,10 +17,68 @@ pub const REJECTING: usize = 14;
 // The off mask of A's edge from 0 to 1, whose on mask is 01.
 pub const OFF: usize = 33;
 
+// The second byte of that edge's mark, and of the mark of F's edge.
+pub const KIND: usize = 29;
+
+pub const KIND_F: usize = 17;
+
+// A's two waiting edges.
+const WAITING_1: usize = 40;
+
+const WAITING_2: usize = 46;
+
 // ---- the sheets and books
 // A's book.
 pub const BOOK_A: [u8; 20] = *b"\
     TB\x00\x00\x04\x01\x01\x01\x01TB\x00\x01\x08\x00\x00\x00\x00EN";
+
+// The edge at `at` says unless, and on and off are turned round: `while not granted` becomes `unless granted`.
+fn say_unless(sheet: &mut [u8; 60], at: usize)
+    requires { ⌜ length (now sheet) ≡ 60 ⌝ }
+    requires { ⌜ at + 6 ≤ 60 ⌝ }
+    ensures { λ _. ⌜ length (now (sheet .exit)) ≡ 60 ⌝ }
+{
+    let on = sheet[at + 4];
+    let off = sheet[at + 5];
+    sheet[at + 1] = b'X';
+    sheet[at + 4] = off;
+    sheet[at + 5] = on;
+}
+
+// A, whose waiting edges say unless.
+pub fn waiting_unless() -> [u8; 60]
+    ensures { λ r. ⌜ 60 ≡ length r ⌝ }
+{
+    let mut sheet = CASE_A;
+    say_unless(&mut sheet, WAITING_1);
+    say_unless(&mut sheet, WAITING_2);
+    sheet
+}
+
+// The second byte of the mark of edge k: each other edge says unless.
+fn kind(k: usize) -> u8 {
+    if k % 2 == 0 {
+        return b'D';
+    }
+    b'X'
+}
+
+// E with 64 edges, ED and EX by turns, and a mark with this second byte. Four fields follow that one too.
+pub fn edges_then(mark: u8) -> [u8; 408]
+    ensures { λ r. ⌜ 408 ≡ length r ⌝ }
+{
+    let mut sheet = [0u8; 408];
+    bytes::copy(&CASE_E, &mut sheet);
+    let mut k: usize = 0;
+    while k < 65 {
+        let at = 16 + 6 * k;
+        sheet[at] = b'E';
+        sheet[at + 1] = kind(k);
+        k += 1;
+    }
+    sheet[401] = mark;
+    sheet
+}
 
 // A's automaton over two processes. Their bounds are set by `bounded`.
 const CASE_C: [u8; 65] = *b"\

@@ -1,4 +1,4 @@
--- What is drawn as the condition of an index is right: read as the masks of an edge, it is met by exactly the values whose index this is.
+-- What is drawn as the condition of an index is right: read as the masks of an ED, it is met by exactly the values whose index this is.
 use mathlib.Core.Path.{_≡_, refl, sym, ap, ap₂, _∙_}
 use mathlib.Core.Bool.{Bool, true, false, not, _&&_}
 use Prim.Native.Nat.{ℕ, zero, suc, _+_, _-_, _*_, _/_, _%_, _^_, _≤_, _<_, min}
@@ -105,7 +105,7 @@ met-back (suc k) m w v e lm =
 
 -- ---- the condition as an edge has it
 abbrev pub condition : ℕ → ℕ → Edge
-condition inputs k = record { from = 0; to = 0; on = unpack inputs k; off = inputs - unpack inputs k }
+condition inputs k = record { from = 0; to = 0; on = unpack inputs k; off = inputs - unpack inputs k; unless = false }
 
 pub condition-met : (inputs k v : ℕ) → inputs < 256 → k < 2 ^ count inputs → meets (condition inputs k) v ≡ eqb (pack inputs v) k
 unfolding meets within share count pack unpack

@@ -15,7 +15,7 @@ use Rattle.text.specs.Rows.{rowOf}
 use Rattle.text.proofs.RowsShort.{from-short, processes-short, edges-short}
 use Rattle.text.proofs.TextShort.{row-bytes, row-short}
 use Rattle.drawing.specs.Drawing as spec
-use Rattle.drawing.specs.Drawing.{stateText, edgeLine, automatonText, conditionText, conditionsText, labelText, moveText, rowText, tableText, startText, sheetText, bookText}
+use Rattle.drawing.specs.Drawing.{stateText, edLine, exLine, automatonText, conditionText, conditionsText, labelText, moveText, rowText, tableText, startText, sheetText, bookText}
 use Rattle.drawing.proofs.Unpacked.{unpack-le}
 
 -- ---- the automaton
@@ -24,13 +24,13 @@ unfolding stateText if longest
 state-short q true h = filled-short 2 (ascii "        q# [label=\"#\", shape=doublecircle];\n") _ (h, (h, tt))
 state-short q false h = omega (arith, filled-short 2 (ascii "        q# [label=\"#\"];\n") (q ∷ q ∷ []) (h, (h, tt)))
 
-automaton-short : {v : ℕ} (u : Automaton) → v ≤ 8 → ProperAutomaton v u → length (automatonText u) ≤ 5319
+automaton-short : {v : ℕ} (u : Automaton) → v ≤ 8 → ProperAutomaton v u → length (automatonText u) ≤ 5767
 unfolding automatonText longest
 automaton-short u few g =
     let front = filled-short 2 (ascii "    subgraph cluster_automaton {\n        label=\"automaton (two circles: rejecting)\";\n        q [shape=point];\n        q -> q#;\n")
     (u .initial ∷ []) (omega (arith, g .initial-known, g .few-states), tt) in
     let states = from-short (λ q. stateText q (bit (u .rejecting) q)) 48 16 (λ q h. state-short q (bit (u .rejecting) q) (omega arith)) (u .states) 0 (omega (arith, g .few-states)) in
-    simp length-append (omega (arith, front, states, g .few-states, edges-short few (g .few-states) edgeLine (u .edges) (g .edges-proper), g .few-edges))
+    simp length-append (omega (arith, front, states, g .few-states, edges-short few (g .few-states) edLine exLine 76 (omega arith) (omega arith) (u .edges) (g .edges-proper), g .few-edges))
 
 -- ---- the moves of a state
 condition-short : (inputs k : ℕ) → inputs < 256 → length (conditionText inputs k) ≤ 38
@@ -100,7 +100,7 @@ module _ {v : ℕ} (few : v ≤ 8) (c : List ℕ) (bytes : Bytes c) where
           (row-bytes p at c x bytes) (row-short p at c x own)
 
 -- ---- the graph: at most 4 processes, 16 automaton states and 64 edges
-start-short : (s : Sheet) → ProperSheet s → length (startText s) ≤ 5480
+start-short : (s : Sheet) → ProperSheet s → length (startText s) ≤ 5928
 unfolding startText longest
 start-short s g =
     let a = s .architecture in

@@ -23,9 +23,13 @@ stateText q rejecting =
 abbrev pub statesText : ℕ → ℕ → List ℕ
 statesText n rejecting = eachFrom (λ q. stateText q (bit rejecting q)) n 0
 
--- an edge, with its on and off variables, by this template
-abbrev pub edgeLine : List ℕ
-edgeLine = ascii "        q# -> q# [label=\"?\"];\n"
+-- an ED, with its on and off variables, by this template
+abbrev pub edLine : List ℕ
+edLine = ascii "        q# -> q# [label=\"?\"];\n"
+
+-- and an EX by this one
+abbrev pub exLine : List ℕ
+exLine = ascii "        q# -> q# [label=\"unless ?\"];\n"
 
 -- the front of its cluster: an arrow from a point leads to the initial state
 abbrev pub automatonFront : ℕ → List ℕ
@@ -38,7 +42,7 @@ clusterEnd = ascii "    }\n"
 
 -- its cluster
 unfoldable pub automatonText : Automaton → List ℕ
-automatonText u = automatonFront (u .initial) ++ statesText (u .states) (u .rejecting) ++ edgesText edgeLine (u .edges) ++ clusterEnd
+automatonText u = automatonFront (u .initial) ++ statesText (u .states) (u .rejecting) ++ edgesText edLine exLine (u .edges) ++ clusterEnd
 
 -- ---- the tables: the states of process i are pi_0, pi_1, ..
 -- how many of the next states are y

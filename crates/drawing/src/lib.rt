@@ -76,7 +76,13 @@ fn put_automaton(text: &mut [u8], at: usize, u: Automaton) -> usize
 {
     let after_front = put_automaton_front(text, at, u.initial);
     let after_states = put_states(text, after_front, u.states, u.rejecting);
-    let after_edges = text::put_edges(text, after_states, b"        q# -> q# [label=\"?\"];\n", u);
+    let after_edges = text::put_edges(
+        text,
+        after_states,
+        b"        q# -> q# [label=\"?\"];\n",
+        b"        q# -> q# [label=\"unless ?\"];\n",
+        u,
+    );
     put_bytes(text, after_edges, b"    }\n")
 }
 

@@ -10,7 +10,7 @@ use Rattle.model.specs.Choice.{rows, entries}
 use Rattle.model.proofs.EntriesBound.{rows-short}
 use Rattle.template.proofs.FilledShort.{longest, filled-short}
 use Rattle.text.proofs.RowsShort.{processes-short, edges-short}
-use Rattle.listing.specs.Listing.{frontText, processText, statesText, edgeLine, twos, threes, total, countsText, showText}
+use Rattle.listing.specs.Listing.{frontText, processText, statesText, edLine, exLine, twos, threes, total, countsText, showText}
 use Rattle.listing.proofs.Exponents.{twos-few, threes-few, total-few}
 
 -- ---- the records
@@ -60,7 +60,7 @@ show-short s g =
       processes-short (λ i p at. processText i p) 114 4 (process-short (f .few-variables)) 0 (s .architecture .processes) 0 (f .processes-proper) (omega (arith, f .few-processes)),
       f .few-processes,
       states-short (s .automaton) u,
-      edges-short (f .few-variables) (u .few-states) edgeLine (s .automaton .edges) (u .edges-proper),
+      edges-short (f .few-variables) (u .few-states) edLine exLine 110 (omega arith) (omega arith) (s .automaton .edges) (u .edges-proper),
       u .few-edges,
       counts-short (s .architecture) a,
     ))

@@ -28,9 +28,13 @@ processesText ps = eachProcess (λ i p at. processText i p) 0 ps 0
 abbrev pub statesText : ℕ → ℕ → ℕ → List ℕ
 statesText states initial rejecting = filled (ascii "automaton states # initial # rejecting $\n") (states ∷ initial ∷ rejecting ∷ [])
 
--- every ED, each by this template
-abbrev pub edgeLine : List ℕ
-edgeLine = ascii "edge # to # on @ off @\n"
+-- every ED by this template
+abbrev pub edLine : List ℕ
+edLine = ascii "edge # to # on @ off @\n"
+
+-- and every EX by this one
+abbrev pub exLine : List ℕ
+exLine = ascii "edge # to # unless on @ off @\n"
 
 -- ---- the counts
 -- an entry may have 2 ^ twos times 3 ^ threes values: the exponent of 2
@@ -60,5 +64,5 @@ showText s =
     frontText (a .variables) (a .environment) (a .root)
     ++ processesText (a .processes)
     ++ statesText (u .states) (u .initial) (u .rejecting)
-    ++ edgesText edgeLine (u .edges)
+    ++ edgesText edLine exLine (u .edges)
     ++ countsText a

@@ -178,7 +178,13 @@ fn put_sheet(text: &mut [u8], sheet: Sheet) -> usize
     let after_front = put_front(text, 0, a);
     let after_processes = put_processes(text, after_front, a);
     let after_states = put_states(text, after_processes, u);
-    let after_edges = text::put_edges(text, after_states, b"edge # to # on @ off @\n", u);
+    let after_edges = text::put_edges(
+        text,
+        after_states,
+        b"edge # to # on @ off @\n",
+        b"edge # to # unless on @ off @\n",
+        u,
+    );
     put_counts(text, after_edges, a)
 }
 

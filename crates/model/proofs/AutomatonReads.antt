@@ -1,22 +1,22 @@
--- Behind a front, reading goes through AU and the ED of a proper automaton, and stops at the first record that is none.
-use mathlib.Core.Path.{_≡_, refl, ap, ap₂, _∙_}
+-- Behind a front, reading goes through AU and the edges of a proper automaton, and stops at the first record that is none.
+use mathlib.Core.Path.{_≡_, refl, ap, ap₂, _∙_, subst}
 use mathlib.Core.Bool.{true, false, not, _||_}
-use mathlib.Core.List.{List, [], _∷_, _++_, List·Memᴰ·head, List·Memᴰ·tail}
+use mathlib.Core.List.{List, [], _∷_, _++_, append-assoc, List·Memᴰ·head, List·Memᴰ·tail}
 use Prim.Native.Nat.{ℕ, zero, suc, _+_, _*_, _≤_}
 use native.Mathlib.Nat.{zero-add, add-zero, suc-add, mod-add-div}
 use native.Mathlib.Omega.{arith}
 use lib.Dec.{eqb}
-use lib.ListN.{length}
+use lib.ListN.{length, length-append}
 use borrow.Author.Tests.{ne-eqb}
 use Rattle.model.specs.declared.Refusal.the-variants.{SheetTooShort, WrongMark, NoOwnerOrTooMany, BadAutomaton, BadEdge}
 use Rattle.model.specs.Mask.{if}
 use Rattle.model.specs.Sheet.{Architecture, Edge, Automaton, ProperEdges}
-use Rattle.model.specs.Reading.{Reading, refused, proper, byte, short, marked, AU, ED, allFault, auFault, edFault}
+use Rattle.model.specs.Reading.{Reading, refused, proper, byte, short, marked, edgeMarked, AU, allFault, auFault, edFault}
 use Rattle.model.specs.Reading.{readEnd, readEdge, readEdges, readAutomaton, refuse_when_else_, _then_}
 use Rattle.model.specs.SheetFile.{statesBytes, edgeBytes, edgesBytes}
 use Rattle.model.proofs.Refusing.{go}
 use Rattle.model.proofs.FaultsExact.{fields-of-edge-faultless}
-use Rattle.model.proofs.RecordAt.{At, next, byte-at, long-enough, marked-at, edge-at}
+use Rattle.model.proofs.RecordAt.{At, next, byte-at, long-enough, marked-at, edge-long, edge-marked-at, edge-opens, edge-at}
 
 -- the automaton with these edges for its own
 unfoldable pub havingEdges : Automaton → List Edge → Automaton
@@ -50,24 +50,24 @@ module _ (b : List ℕ) where
       (readEdges (a .variables) (states j) 64 b (i + 6) then λ es. proper record { states = states j; initial = initial j; rejecting = rejecting j; edges = es })))
 
   module _ (variables states : ℕ) where
-    -- ---- one ED
+    -- ---- one edge
     -- a whole one is tested, and then the next is read
     pub edge-next : (i k : ℕ) (e : Edge) (x : List ℕ) → At b i (edgeBytes e ++ x)
         → readEdges variables states (suc k) b i ≡
         refuse_when_else_ BadEdge (edFault variables states e) (readEdges variables states k b (i + 6) then λ es. proper (e ∷ es))
-    unfolding readEdges readEdge edgeBytes if refuse_when_else_
+    unfolding readEdges readEdge if refuse_when_else_
     edge-next i k e x h =
-        let mark : marked b i ED ≡ true = marked-at h ED in
-        let whole : short b i 6 ≡ false = long-enough h 6 (omega arith) in
+        let mark : edgeMarked b i ≡ true = edge-marked-at (e .unless) _ (edge-opens e x h) in
+        let whole : short b i 6 ≡ false = long-enough h 6 (omega (arith, edge-long e, length-append (edgeBytes e) x)) in
         rw (mark, whole) (ap (λ (q : Edge). refuse_when_else_ BadEdge (edFault variables states q) (readEdges variables states k b (i + 6) then λ es. proper (q ∷ es))) (edge-at e x h))
 
     -- one that ends too early
-    pub edge-short : (i k : ℕ) → marked b i ED ≡ true → short b i 6 ≡ true → readEdges variables states (suc k) b i ≡ refused SheetTooShort
+    pub edge-short : (i k : ℕ) → edgeMarked b i ≡ true → short b i 6 ≡ true → readEdges variables states (suc k) b i ≡ refused SheetTooShort
     unfolding readEdges readEdge if refuse_when_else_
     edge-short i k mark e = rw (mark, e)
 
     -- none
-    pub no-edge : (i k : ℕ) → marked b i ED ≡ false → readEdges variables states k b i ≡ readEnd b i
+    pub no-edge : (i k : ℕ) → edgeMarked b i ≡ false → readEdges variables states k b i ≡ readEnd b i
     unfolding readEdges if
     no-edge i zero mark = refl
     no-edge i (suc k) mark = rw mark
@@ -88,13 +88,14 @@ module _ (b : List ℕ) where
     -- all of them, with room for k more
     pub edges-through : (es : List Edge) (i k : ℕ) (x : List ℕ) → At b i (edgesBytes es ++ x) → ProperEdges variables states es
         → readEdges variables states (length es + k) b i ≡ (readEdges variables states k b (i + length (edgesBytes es)) then λ rs. proper (es ++ rs))
-    unfolding edgesBytes edgeBytes
+    unfolding edgesBytes
     edges-through [] i k x h g = rw (zero-add k, add-zero i) (nothing-more (readEdges variables states k b i))
     edges-through (e ∷ es) i k x h g =
-        let rest : At b (i + 6) (edgesBytes es ++ x) = next (edgeBytes e) (edgesBytes es ++ x) h in
-        let place : i + 6 + length (edgesBytes es) ≡ i + length (edgesBytes (e ∷ es)) = omega arith in
+        let here : At b i (edgeBytes e ++ (edgesBytes es ++ x)) = subst (At b i) (append-assoc (edgeBytes e) (edgesBytes es) x) h in
+        let rest : At b (i + 6) (edgesBytes es ++ x) = subst (λ (n : ℕ). At b (i + n) (edgesBytes es ++ x)) (edge-long e) (next (edgeBytes e) (edgesBytes es ++ x) here) in
+        let place : i + 6 + length (edgesBytes es) ≡ i + length (edgesBytes (e ∷ es)) = omega (arith, edge-long e, length-append (edgeBytes e) (edgesBytes es)) in
         ap (λ (n : ℕ). readEdges variables states n b i) (suc-add (length es) k)
-        ∙ edge-next i (length es + k) e (edgesBytes es ++ x) h
+        ∙ edge-next i (length es + k) e (edgesBytes es ++ x) here
         ∙ go BadEdge _ (fields-of-edge-faultless variables states e (g e (List·Memᴰ·head refl)))
         ∙ ap (λ (m : Reading (List Edge)). m then λ rs. proper (e ∷ rs)) (edges-through es (i + 6) k x rest (λ q m. g q (List·Memᴰ·tail m)))
         ∙ front-edge e es (readEdges variables states k b (i + 6 + length (edgesBytes es)))

@@ -1,6 +1,7 @@
 -- A row of bytes from position i on: a whole record there is its mark, its fields and the row behind it; and a mark is told by its two bytes.
-use mathlib.Core.Path.{_≡_, sym, _∙_}
-use mathlib.Core.Bool.{true, false, true≢false}
+use mathlib.Core.Path.{_≡_, refl, sym, _∙_}
+use mathlib.Core.Bool.{Bool, true, false, _||_, true≢false}
+use mathlib.Core.Logic.{_⊎_, ⊎-elim}
 use mathlib.Core.List.{List, [], _∷_, _++_, append-assoc}
 use Prim.Native.Nat.{ℕ, suc, _+_, _≤_, _<_}
 use native.Mathlib.Numerals.{add-one}
@@ -9,8 +10,10 @@ use lib.Dec.{eqb}
 use lib.ListN.{length, drop, length-drop}
 use lib.Seq.{drop-cons}
 use borrow.Author.Tests.{ltb-true, ltb-false, le-ltb, eqb-true, eq-eqb, not-true}
-use Rattle.theory.proofs.Bools.{and-is}
-use Rattle.model.specs.Reading.{byte, short, marked}
+use Rattle.theory.proofs.Bools.{and-is, or-is}
+use Rattle.model.specs.Reading.{byte, short, marked, edgeMarked, ED, EX}
+use Rattle.model.specs.SheetFile.{edgeMark}
+use Rattle.model.proofs.ProperSheet.{or-false}
 
 -- w, and then v: what is written so far, and the record behind it
 pub row-longer : (w v x y b : List ℕ) → b ≡ w ++ x → x ≡ v ++ y → b ≡ w ++ v ++ y
@@ -79,3 +82,17 @@ module _ (b : List ℕ) (i : ℕ) where
         let e₂ : eqb (byte b (i + 1)) y ≡ true = eq-eqb _ _ second in
         let on : marked b i (x ∷ y ∷ []) ≡ true = rw (whole, e₁, e₂) in
         true≢false (sym on ∙ e)
+
+  -- the mark of an edge that stands at i, of its kind
+  pub edge-mark-stands : edgeMarked b i ≡ true → drop i b ≡ edgeMark (marked b i EX) ++ drop (i + 2) b
+  unfolding edgeMarked edgeMark
+  edge-mark-stands = by (marked b i EX) refl
+    where
+      by : (unless : Bool) → marked b i EX ≡ unless → (marked b i ED || unless) ≡ true → drop i b ≡ edgeMark unless ++ drop (i + 2) b
+      by true m e = mark-stands 0x45 0x58 m
+      by false m e = mark-stands 0x45 0x44 (⊎-elim (λ h. h) (λ h. absurd (true≢false (sym h))) (or-is (marked b i ED) false .0 e))
+
+  -- and one that does not
+  pub edge-mark-differs : i + 2 ≤ length b → edgeMarked b i ≡ false → ¬ ((markAt ≡ ED) ⊎ (markAt ≡ EX))
+  unfolding edgeMarked
+  edge-mark-differs l e h = let n = or-false (marked b i ED) (marked b i EX) e in ⊎-elim (mark-differs 0x45 0x44 l (n .0)) (mark-differs 0x45 0x58 l (n .1)) h

@@ -15,7 +15,7 @@ use Rattle.model.proofs.ProperSheet.{apart-sym}
 use Rattle.model.proofs.RunGraphSteps.{from-below}
 
 -- two tests that fail
-or-off : {a b : Bool} → a ≡ false → b ≡ false → (a || b) ≡ false
+pub or-off : {a b : Bool} → a ≡ false → b ≡ false → (a || b) ≡ false
 or-off p q = rw p q
 
 -- a mask below the bit n has none at or above it
@@ -75,7 +75,7 @@ states-faultless variables u g =
     (lt-leb (u .states) (u .initial) (g .initial-known)))
     (not-beyond (u .rejecting) (u .states) (g .rejecting-known))
 
--- ---- ED
+-- ---- ED and EX
 pub fields-of-edge-faultless : (variables states : ℕ) (e : Edge) → ProperEdge variables states e → edFault variables states e ≡ false
 unfolding edFault
 fields-of-edge-faultless variables states e g =

@@ -13,7 +13,7 @@ use Rattle.theory.proofs.Bools.{and-is}
 use Rattle.model.specs.declared.Refusal.{Refusal}
 use Rattle.model.specs.declared.Refusal.the-variants.{SheetTooShort, WrongMark, BadArchitecture, BadProcess, NoOwnerOrTooMany, BadAutomaton, BadEdge}
 use Rattle.model.specs.Sheet.{Process, Architecture, Edge, Automaton, Sheet, withProcess, withEdge, ProperFront, ProperArchitecture, ProperAutomaton, ProperSheet}
-use Rattle.model.specs.Reading.{refused, marked, AR, PR, AU, ED, EN, arFault, prFault, allFault, auFault, edFault}
+use Rattle.model.specs.Reading.{refused, marked, edgeMarked, AR, PR, AU, ED, EX, EN, arFault, prFault, allFault, auFault, edFault}
 use Rattle.model.specs.Reading.{readEnd, readAutomaton, readFront, readSheet}
 use Rattle.model.specs.SheetFile.{processBytes, edgeBytes, statesBytes, frontBytes, recordsBytes, sheetBytes, FollowsFront, FollowsEdges}
 use Rattle.model.specs.SheetFile.{Faulty, wrong-first-mark, bad-architecture, wrong-mark-behind-front, bad-process, no-owner-or-too-many, bad-automaton}
@@ -21,11 +21,11 @@ use Rattle.model.specs.SheetFile.{wrong-mark-behind-edges, bad-edge, byt
 use Rattle.model.proofs.Refusing.{stop, go}
 use Rattle.model.proofs.ProperSheet.{opening-proper, process-more, front-whole, no-edge-proper}
 use Rattle.model.proofs.RecordMore.{edge-more}
-use Rattle.model.proofs.FaultsExact.{front-faultless}
+use Rattle.model.proofs.FaultsExact.{or-off, front-faultless}
 use Rattle.model.proofs.RecordAt.{At, behind, length-at, long-enough, marked-at}
 use Rattle.model.proofs.FrontReads.{process-next, opening-next, front-through}
 use Rattle.model.proofs.AutomatonReads.{states-next, edge-next}
-use Rattle.model.proofs.SheetReads.{front-refused, automaton-refused, front-done, edges-refused, end-refused}
+use Rattle.model.proofs.SheetReads.{front-refused, automaton-refused, front-done, edges-refused, end-refused, end-no-edge}
 
 -- ---- what is not proper has a fault
 -- a test that, failed, would prove what is not
@@ -81,7 +81,7 @@ mark-wrong a (y ∷ z ∷ []) x b e g l n =
     mark (no h) = ap (λ (t : Bool). not (marked b i AU) || t) (eq-eqb (length (a .processes)) 0 (omega arith)) ∙ or-true (not (marked b i AU))
 
 mark-wrong-behind-edges : (s : Sheet) (m x b : List ℕ) → b ≡ recordsBytes s ++ (m ++ x) → ProperSheet s → length m ≡ 2 → ¬ FollowsEdges (s .automaton) m → readSheet b ≡ refused WrongMark
-unfolding readEnd
+unfolding readEnd edgeMarked
 mark-wrong-behind-edges s [] x b e g l n = absurd (omega arith)
 mark-wrong-behind-edges s (y ∷ []) x b e g l n = absurd (omega arith)
 mark-wrong-behind-edges s (y ∷ z ∷ w ∷ ws) x b e g l n = absurd (omega arith)
@@ -92,10 +92,10 @@ mark-wrong-behind-edges s (y ∷ z ∷ []) x b e g l n =
     here : At b (length (recordsBytes s)) (y ∷ z ∷ x)
     here = behind (recordsBytes s) (y ∷ z ∷ x) e
 
-    -- no ED may stand there
-    room : Dec (64 ≤ length (s .automaton .edges)) → (length (s .automaton .edges) ≡ 64) ⊎ (marked b (length (recordsBytes s)) ED ≡ false)
+    -- no edge may stand there
+    room : Dec (64 ≤ length (s .automaton .edges)) → (length (s .automaton .edges) ≡ 64) ⊎ (edgeMarked b (length (recordsBytes s)) ≡ false)
     room (yes h) = let few : length (s .automaton .edges) ≤ 64 = g .automaton .few-edges in inl (omega arith)
-    room (no h) = inr (marked-at here ED ∙ other-mark (λ q. n (inl (q, omega arith))))
+    room (no h) = inr (or-off (marked-at here ED ∙ other-mark (λ q. n (inl (inl q, omega arith)))) (marked-at here EX ∙ other-mark (λ q. n (inl (inr q, omega arith)))))
 
 -- a byte behind EN
 end-goes-on : (s : Sheet) (y : ℕ) (x b : List ℕ) → b ≡ recordsBytes s ++ (EN ++ (y ∷ x)) → ProperSheet s → readSheet b ≡ refused WrongMark
@@ -104,7 +104,7 @@ end-goes-on s y x b e g =
     let i : ℕ = length (recordsBytes s) in
     let here : At b i (EN ++ (y ∷ x)) = behind (recordsBytes s) (EN ++ (y ∷ x)) e in
     let mark : marked b i EN ≡ true = marked-at here EN in
-    end-refused s (EN ++ (y ∷ x)) b e g WrongMark (inr (marked-at here ED))
+    end-refused s (EN ++ (y ∷ x)) b e g WrongMark (inr (end-no-edge here))
     (go SheetTooShort _ (long-enough here 2 (omega arith)) ∙ go WrongMark _ (ap not mark) ∙ stop WrongMark _ (lt-ltb (i + 2) (length b) (omega (arith, length-at here))))
 
 -- ---- a faulty record

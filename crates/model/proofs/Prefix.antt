@@ -14,7 +14,7 @@ use Rattle.model.specs.declared.Refusal.{Refusal}
 use Rattle.model.specs.declared.Refusal.the-variants.{SheetTooShort, WrongMark, BadArchitecture, BadProcess, NoOwnerOrTooMany, BadAutomaton, BadEdge}
 use Rattle.model.specs.Mask.{if}
 use Rattle.model.specs.Sheet.{Process, Architecture, Sheet, withProcess}
-use Rattle.model.specs.Reading.{Reading, refused, proper, byte, short, marked, EN, ED, AU, PR}
+use Rattle.model.specs.Reading.{Reading, refused, proper, byte, short, marked, edgeMarked, EN, EX, ED, AU, PR}
 use Rattle.model.specs.Reading.{AR, arFault, prFault, allFault, auFault, edFault, architectureAt, processAt, edgeAt, Front}
 use Rattle.model.specs.Reading.{readEnd, readEdge, readEdges, readAutomaton, readProcess, readProcesses, readFront, readSheet, refuse_when_else_, _then_}
 use Rattle.model.specs.Calls.{reply, checkOf, findSheet, findOf}
@@ -59,6 +59,10 @@ module _ (a b : List ℕ) (same : Same a b) where
   unfolding marked
   marked-same i m l = λ j. not (short-same i 2 l j) && eqb (same .bytes i (omega arith) j) (byte m 0) && eqb (same .bytes (i + 1) (omega arith) j) (byte m 1)
 
+  edge-marked-same : (i : ℕ) → i + 2 ≤ 418 → edgeMarked a i ≡ edgeMarked b i
+  unfolding edgeMarked
+  edge-marked-same i l = λ j. marked-same i ED l j || marked-same i EX l j
+
   -- the bytes behind the mark of a record at i
   record Fields (i : ℕ) : Type 0 where
     second : byte a (i + 2) ≡ byte b (i + 2)
@@ -78,19 +82,19 @@ module _ (a b : List ℕ) (same : Same a b) where
       alike WrongMark when same .follows (i + 2) (omega arith) else
       refl
 
-  -- at most k more ED of 6 bytes, then EN
+  -- at most k more edges of 6 bytes, then EN
   edges-same : (variables states k i : ℕ) → i + 6 * k ≤ 415 → readEdges variables states k a i ≡ readEdges variables states k b i
   unfolding readEdges readEdge
   edges-same variables states zero i l = end-same i (omega arith)
   edges-same variables states (suc k) i l =
       let f : Fields i = fields i (omega arith) in
-      let own : edgeAt a i ≡ edgeAt b i = λ j. record { from = f .second j; to = f .third j; on = f .fourth j; off = f .fifth j } in
-      unless marked-same i ED (omega arith) read end-same i (omega arith) else
+      let own : edgeAt a i ≡ edgeAt b i = λ j. record { from = f .second j; to = f .third j; on = f .fourth j; off = f .fifth j; unless = marked-same i EX (omega arith) j } in
+      unless edge-marked-same i (omega arith) read end-same i (omega arith) else
       alike SheetTooShort when short-same i 6 (omega arith) else
       alike BadEdge when ap (edFault variables states) own else
       then-same (edges-same variables states k (i + 6) (omega arith)) (λ j es. proper (own j ∷ es))
 
-  -- AU, then at most 64 ED
+  -- AU, then at most 64 edges
   automaton-same : (u : Architecture) (i : ℕ) → i ≤ 25 → readAutomaton u a i ≡ readAutomaton u b i
   unfolding readAutomaton
   automaton-same u i l =

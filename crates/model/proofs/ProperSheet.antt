@@ -16,7 +16,7 @@ use Rattle.theory.proofs.ListLaws.{all-is, from-has, pairwise-append}
 use Rattle.model.specs.Mask.{if, share, beyond, count}
 use Rattle.model.specs.Sheet.{Process, Architecture, Edge, Automaton, Sheet, withProcess, owned, composedStates, Apart}
 use Rattle.model.specs.Sheet.{ProperProcess, ProperProcesses, OutputsApart, ProperFront, ProperArchitecture, ProperEdge, ProperEdges, ProperAutomaton, ProperSheet}
-use Rattle.model.specs.Reading.{Reading, refused, proper, byte, short, marked, EN, ED, AU, PR, AR}
+use Rattle.model.specs.Reading.{Reading, refused, proper, byte, short, marked, edgeMarked, EN, AU, PR, AR}
 use Rattle.model.specs.Reading.{arFault, taken, fieldFault, prFault, allFault, auFault, edFault, architectureAt, processAt, edgeAt, Front}
 use Rattle.model.specs.Reading.{readEnd, readEdge, readEdges, readAutomaton, readProcess, readProcesses, readFront, readSheet, refuse_when_else_, _then_}
 
@@ -205,7 +205,7 @@ module _ (variables states : ℕ) where
   unfolding readEdges readEdge
   edges-read zero b i es e = no-edges zero b i es e
   edges-read (suc k) b i es e =
-      by (λ es e. edges-read k b (i + 6) es e) (if-cases (marked b i ED) (readEdge variables states b i (readEdges variables states k b (i + 6))) (readEnd b i) e)
+      by (λ es e. edges-read k b (i + 6) es e) (if-cases (edgeMarked b i) (readEdge variables states b i (readEdges variables states k b (i + 6))) (readEnd b i) e)
     where
       by : ((es : List Edge) → readEdges variables states k b (i + 6) ≡ proper es → ProperEdges variables states es × (length es ≤ k) × (length b ≤ i + 6 + 6 * k + 2))
           → (readEdge variables states b i (readEdges variables states k b (i + 6)) ≡ proper es) ⊎ (readEnd b i ≡ proper es)

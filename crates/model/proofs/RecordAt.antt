@@ -1,7 +1,7 @@
 -- What reading finds at a place is what is written there: with x from place i on in the row b, the tests and bytes of b at i are those of x.
-use mathlib.Core.Path.{_≡_, refl, sym, ap, _∙_}
-use mathlib.Core.Bool.{true, false, _&&_}
-use mathlib.Core.List.{List, _∷_, _++_, append-assoc}
+use mathlib.Core.Path.{_≡_, refl, sym, ap, _∙_, subst}
+use mathlib.Core.Bool.{Bool, true, false, _&&_}
+use mathlib.Core.List.{List, [], _∷_, _++_, append-assoc}
 use Prim.Native.Nat.{ℕ, _+_, _≤_, _<_}
 use native.Mathlib.Nat.{add-zero}
 use native.Mathlib.Omega.{arith}
@@ -10,8 +10,8 @@ use lib.ListN.{length, length-append}
 use lib.Seq.{getD-append-add}
 use borrow.Author.Tests.{lt-ltb, le-ltb}
 use Rattle.model.specs.Sheet.{Process, Edge}
-use Rattle.model.specs.Reading.{byte, short, marked, processAt, edgeAt}
-use Rattle.model.specs.SheetFile.{processBytes, edgeBytes}
+use Rattle.model.specs.Reading.{byte, short, marked, edgeMarked, ED, EX, processAt, edgeAt}
+use Rattle.model.specs.SheetFile.{processBytes, edgeMark, edgeBytes}
 
 -- b has x from place i on
 pub record At (b : List ℕ) (i : ℕ) (x : List ℕ) : Type 0 where
@@ -23,6 +23,23 @@ pub record At (b : List ℕ) (i : ℕ) (x : List ℕ) : Type 0 where
 pub behind : (w x : List ℕ) {b : List ℕ} → b ≡ w ++ x → At b (length w) x
 behind w x e = record { before = w; whole = e; place = refl }
 
+-- ---- an edge is six bytes, whatever its kind, and two of them are its mark
+mark-two : (unless : Bool) → edgeMark unless ≡ 0x45 ∷ byte (edgeMark unless) 1 ∷ []
+unfolding edgeMark
+mark-two true = refl
+mark-two false = refl
+
+pub mark-long : (unless : Bool) → length (edgeMark unless) ≡ 2
+mark-long unless = ap length (mark-two unless)
+
+edge-six : (e : Edge) → edgeBytes e ≡ 0x45 ∷ byte (edgeMark (e .unless)) 1 ∷ e .from ∷ e .to ∷ e .on ∷ e .off ∷ []
+unfolding edgeBytes
+edge-six e = ap (λ (m : List ℕ). m ++ (e .from ∷ e .to ∷ e .on ∷ e .off ∷ [])) (mark-two (e .unless))
+
+pub edge-long : (e : Edge) → length (edgeBytes e) ≡ 6
+edge-long e = ap length (edge-six e)
+
+-- ---- what stands at i
 module _ {b : List ℕ} {i : ℕ} where
   -- the place behind the record r
   pub next : (r x : List ℕ) → At b i (r ++ x) → At b (i + length r) x
@@ -55,6 +72,10 @@ module _ {b : List ℕ} {i : ℕ} where
   unfolding marked
   no-mark h l m = rw (too-short h 2 l)
 
+  pub no-edge-mark : {x : List ℕ} → At b i x → length x < 2 → edgeMarked b i ≡ false
+  unfolding edgeMarked
+  no-edge-mark h l = rw (no-mark h l ED, no-mark h l EX)
+
   -- a whole mark is told by its bytes
   pub marked-at : {y z : ℕ} {x : List ℕ} → At b i (y ∷ z ∷ x) → (m : List ℕ) → marked b i m ≡ (eqb y (byte m 0) && eqb z (byte m 1))
   unfolding marked
@@ -69,7 +90,25 @@ module _ {b : List ℕ} {i : ℕ} where
   unfolding processBytes
   process-at p x h = λ j. record { inputs = byte-at h 2 j; outputs = byte-at h 3 j; bound = byte-at h 4 j }
 
-  -- the fields of an ED
-  pub edge-at : (e : Edge) (x : List ℕ) → At b i (edgeBytes e ++ x) → edgeAt b i ≡ e
+  -- the mark of an edge tells its kind
+  pub edge-marked-at : (unless : Bool) (x : List ℕ) → At b i (edgeMark unless ++ x) → edgeMarked b i ≡ true
+  unfolding edgeMark edgeMarked
+  edge-marked-at true x h = rw (marked-at h ED, marked-at h EX)
+  edge-marked-at false x h = rw (marked-at h ED)
+
+  kind-at : (unless : Bool) (x : List ℕ) → At b i (edgeMark unless ++ x) → marked b i EX ≡ unless
+  unfolding edgeMark
+  kind-at true x h = marked-at h EX
+  kind-at false x h = marked-at h EX
+
+  -- an edge opens with it
+  pub edge-opens : (e : Edge) (x : List ℕ) → At b i (edgeBytes e ++ x) → At b i (edgeMark (e .unless) ++ (e .from ∷ e .to ∷ e .on ∷ e .off ∷ x))
   unfolding edgeBytes
-  edge-at e x h = λ j. record { from = byte-at h 2 j; to = byte-at h 3 j; on = byte-at h 4 j; off = byte-at h 5 j }
+  edge-opens e x h = subst (At b i) (append-assoc (edgeMark (e .unless)) (e .from ∷ e .to ∷ e .on ∷ e .off ∷ []) x) h
+
+  -- the fields of an ED or EX
+  pub edge-at : (e : Edge) (x : List ℕ) → At b i (edgeBytes e ++ x) → edgeAt b i ≡ e
+  edge-at e x h =
+      let kind : marked b i EX ≡ e .unless = kind-at (e .unless) _ (edge-opens e x h) in
+      let six = subst (λ (r : List ℕ). At b i (r ++ x)) (edge-six e) h in
+      λ j. record { from = byte-at six 2 j; to = byte-at six 3 j; on = byte-at six 4 j; off = byte-at six 5 j; unless = kind j }

@@ -16,7 +16,7 @@ use Rattle.model.specs.declared.Outcome.{Outcome}
 use Rattle.model.specs.Numbers.{number}
 use Rattle.model.specs.Mask.{if}
 use Rattle.model.specs.Sheet.{Architecture, Sheet, withProcess}
-use Rattle.model.specs.Reading.{Reading, refused, proper, byte, short, marked, EN, ED, AU, PR}
+use Rattle.model.specs.Reading.{Reading, refused, proper, byte, short, marked, edgeMarked, EN, AU, PR}
 use Rattle.model.specs.Reading.{AR, arFault, prFault, allFault, auFault, edFault, architectureAt, processAt, edgeAt, readEnd}
 use Rattle.model.specs.Reading.{readEdge, readEdges, readAutomaton, readProcess, readProcesses, readFront, readSheet, refuse_when_else_, _then_}
 use Rattle.model.specs.Computed.{loops, firstChoice}
@@ -57,7 +57,7 @@ early-edges : (variables states k : ℕ) (b : List ℕ) (i : ℕ) → Early (rea
 unfolding readEdges readEdge
 early-edges variables states zero b i = early-end b i
 early-edges variables states (suc k) b i =
-    early-if (marked b i ED) (readEdge variables states b i (readEdges variables states k b (i + 6))) (readEnd b i)
+    early-if (edgeMarked b i) (readEdge variables states b i (readEdges variables states k b (i + 6))) (readEnd b i)
     (early-refuse SheetTooShort (short b i 6) _ (omega arith)
     (early-refuse BadEdge (edFault variables states (edgeAt b i)) _ (omega arith)
     (early-then (readEdges variables states k b (i + 6)) _ (early-edges variables states k b (i + 6)) (λ es. early-proper (edgeAt b i ∷ es)))))

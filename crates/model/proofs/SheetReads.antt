@@ -2,7 +2,7 @@
 use mathlib.Core.Path.{_≡_, refl, sym, ap, _∙_}
 use mathlib.Core.Bool.{true, false, not}
 use mathlib.Core.Logic.{_⊎_, inl, inr}
-use mathlib.Core.List.{List, [], _++_, append-nil, append-assoc}
+use mathlib.Core.List.{List, [], _∷_, _++_, append-nil, append-assoc}
 use Prim.Native.Nat.{ℕ, _+_, _-_, _≤_}
 use native.Mathlib.Omega.{arith}
 use lib.ListN.{length, length-append}
@@ -10,7 +10,7 @@ use borrow.Author.Tests.{le-ltb}
 use Rattle.model.specs.declared.Refusal.{Refusal}
 use Rattle.model.specs.declared.Refusal.the-variants.{SheetTooShort, WrongMark, NoOwnerOrTooMany, BadAutomaton}
 use Rattle.model.specs.Sheet.{Architecture, Edge, Automaton, Sheet, ProperFront, ProperArchitecture, ProperAutomaton, ProperSheet}
-use Rattle.model.specs.Reading.{Reading, refused, proper, marked, PR, ED, EN}
+use Rattle.model.specs.Reading.{Reading, refused, proper, marked, edgeMarked, PR, ED, EX, EN}
 use Rattle.model.specs.Reading.{readEnd, readEdges, readAutomaton, readProcesses, readFront, readSheet, _then_}
 use Rattle.model.specs.SheetFile.{statesBytes, edgesBytes, frontBytes, automatonBytes, recordsBytes, sheetBytes}
 use Rattle.model.proofs.Refusing.{go}
@@ -83,7 +83,7 @@ unfolding _then_ moreEdges
 gathered s (refused r) = refl
 gathered s (proper es) = refl
 
--- AR to the last ED
+-- AR to the last edge
 records-through : (s : Sheet) (x b : List ℕ) (k : ℕ) → b ≡ recordsBytes s ++ x → ProperSheet s → length (s .automaton .edges) + k ≡ 64
     → readSheet b ≡ (readEdges (s .architecture .variables) (s .automaton .states) k b (length (recordsBytes s)) then λ es. proper (moreEdges s es))
 unfolding recordsBytes automatonBytes statesBytes
@@ -99,8 +99,8 @@ records-through s x b k e g room =
     ∙ gathered s (readEdges (a .variables) (u .states) k b (i + length (automatonBytes u)))
     ∙ ap (λ (n : ℕ). readEdges (a .variables) (u .states) k b n then λ es. proper (moreEdges s es)) (sym (length-append (frontBytes a) (automatonBytes u)))
 
--- proper records, with no room or no mark for another ED
-records-done : (s : Sheet) (x b : List ℕ) → b ≡ recordsBytes s ++ x → ProperSheet s → (length (s .automaton .edges) ≡ 64) ⊎ (marked b (length (recordsBytes s)) ED ≡ false)
+-- proper records, with no room or no mark for another edge
+records-done : (s : Sheet) (x b : List ℕ) → b ≡ recordsBytes s ++ x → ProperSheet s → (length (s .automaton .edges) ≡ 64) ⊎ (edgeMarked b (length (recordsBytes s)) ≡ false)
     → readSheet b ≡ (readEnd b (length (recordsBytes s)) then λ es. proper (moreEdges s es))
 unfolding readEdges
 records-done s x b e g (inl full) = records-through s x b 0 e g (omega arith)
@@ -117,11 +117,16 @@ module _ (s : Sheet) (x b : List ℕ) (e : b ≡ recordsBytes s ++ x) (g : Prope
   unfolding _then_
   edges-refused k room f = records-through s x b k e g room ∙ rw f
 
-  pub end-refused : (length (s .automaton .edges) ≡ 64) ⊎ (marked b (length (recordsBytes s)) ED ≡ false) → readEnd b (length (recordsBytes s)) ≡ refused r → readSheet b ≡ refused r
+  pub end-refused : (length (s .automaton .edges) ≡ 64) ⊎ (edgeMarked b (length (recordsBytes s)) ≡ false) → readEnd b (length (recordsBytes s)) ≡ refused r → readSheet b ≡ refused r
   unfolding _then_
   end-refused none f = records-done s x b e g none ∙ rw f
 
 -- ---- EN
+-- it is no edge's mark
+pub end-no-edge : {b : List ℕ} {i : ℕ} {x : List ℕ} → At b i (0x45 ∷ 0x4E ∷ x) → edgeMarked b i ≡ false
+unfolding edgeMarked
+end-no-edge h = rw (marked-at h ED, marked-at h EX)
+
 -- the last, with no byte after it
 end-reads : {b : List ℕ} {i : ℕ} → At b i EN → readEnd b i ≡ proper []
 unfolding readEnd
@@ -143,6 +148,6 @@ pub sheet-reads : (s : Sheet) → ProperSheet s → readSheet (sheetBytes s) ≡
 unfolding sheetBytes _then_
 sheet-reads s g =
     let end : At (recordsBytes s ++ EN) (length (recordsBytes s)) EN = behind (recordsBytes s) EN refl in
-    records-done s EN (recordsBytes s ++ EN) refl g (inr (marked-at end ED))
+    records-done s EN (recordsBytes s ++ EN) refl g (inr (end-no-edge end))
     ∙ ap (λ (m : Reading (List Edge)). m then λ es. proper (moreEdges s es)) (end-reads end)
     ∙ ap proper (no-more s)

@@ -1,17 +1,17 @@
 -- A row that ends within a mark, or within the record of a mark that may stand there, is refused by 1: what stands before is read through.
 use mathlib.Core.Path.{_≡_, refl, ap, _∙_}
-use mathlib.Core.Bool.{true, not}
+use mathlib.Core.Bool.{Bool, true, not}
 use mathlib.Core.Logic.{inr}
 use mathlib.Core.List.{List, [], _++_, append-assoc}
 use Prim.Native.Nat.{ℕ, suc, _+_, _-_, _≤_, _<_}
 use native.Mathlib.Omega.{arith}
-use lib.ListN.{length}
+use lib.ListN.{length, length-append}
 use Rattle.model.specs.declared.Refusal.the-variants.{SheetTooShort, WrongMark}
 use Rattle.model.specs.Sheet.{Architecture, Sheet, ProperFront, ProperSheet}
-use Rattle.model.specs.Reading.{refused, marked, AR, PR, AU, ED, readEnd, readAutomaton, readFront, readSheet}
-use Rattle.model.specs.SheetFile.{frontBytes, recordsBytes, Unfinished, in-first-mark, in-architecture, in-mark-behind-front, in-process, in-states, in-mark-behind-edges, in-edge}
+use Rattle.model.specs.Reading.{refused, marked, AR, PR, AU, readEnd, readAutomaton, readFront, readSheet}
+use Rattle.model.specs.SheetFile.{edgeMark, frontBytes, recordsBytes, Unfinished, in-first-mark, in-architecture, in-mark-behind-front, in-process, in-states, in-mark-behind-edges, in-edge}
 use Rattle.model.proofs.Refusing.{stop, go}
-use Rattle.model.proofs.RecordAt.{At, behind, too-short, long-enough, no-mark, marked-at}
+use Rattle.model.proofs.RecordAt.{At, behind, too-short, long-enough, no-mark, no-edge-mark, marked-at, mark-long, edge-marked-at}
 use Rattle.model.proofs.FrontReads.{process-short, front-through}
 use Rattle.model.proofs.AutomatonReads.{states-mark, edge-short}
 use Rattle.model.proofs.SheetReads.{front-refused, automaton-refused, front-done, edges-refused, end-refused}
@@ -54,14 +54,14 @@ end-short : (s : Sheet) (x b : List ℕ) → b ≡ recordsBytes s ++ x → Prope
 unfolding readEnd
 end-short s x b e g l =
     let here : At b (length (recordsBytes s)) x = behind (recordsBytes s) x e in
-    end-refused s x b e g SheetTooShort (inr (no-mark here l ED)) (stop SheetTooShort _ (too-short here 2 l))
+    end-refused s x b e g SheetTooShort (inr (no-edge-mark here l)) (stop SheetTooShort _ (too-short here 2 l))
 
-edge-unfinished : (s : Sheet) (x b : List ℕ) → b ≡ recordsBytes s ++ (ED ++ x) → ProperSheet s → length (s .automaton .edges) < 64 → length x < 4 → readSheet b ≡ refused SheetTooShort
-edge-unfinished s x b e g few l =
-    let here : At b (length (recordsBytes s)) (ED ++ x) = behind (recordsBytes s) (ED ++ x) e in
+edge-unfinished : (s : Sheet) (unless : Bool) (x b : List ℕ) → b ≡ recordsBytes s ++ (edgeMark unless ++ x) → ProperSheet s → length (s .automaton .edges) < 64 → length x < 4 → readSheet b ≡ refused SheetTooShort
+edge-unfinished s unless x b e g few l =
+    let here : At b (length (recordsBytes s)) (edgeMark unless ++ x) = behind (recordsBytes s) (edgeMark unless ++ x) e in
     let k : ℕ = 63 - length (s .automaton .edges) in
-    edges-refused s (ED ++ x) b e g SheetTooShort (suc k) (omega arith)
-    (edge-short b (s .architecture .variables) (s .automaton .states) (length (recordsBytes s)) k (marked-at here ED) (too-short here 6 (omega arith)))
+    edges-refused s (edgeMark unless ++ x) b e g SheetTooShort (suc k) (omega arith)
+    (edge-short b (s .architecture .variables) (s .automaton .states) (length (recordsBytes s)) k (edge-marked-at unless x here) (too-short here 6 (omega (arith, mark-long unless, length-append (edgeMark unless) x))))
 
 pub unfinished-refused : (b : List ℕ) → Unfinished b → readSheet b ≡ refused SheetTooShort
 unfinished-refused b (in-first-mark x l) = front-refused x SheetTooShort (first-mark-short x l)
@@ -71,4 +71,4 @@ unfinished-refused b (in-process a x g few l) =
     front-refused (frontBytes a ++ PR ++ x) SheetTooShort (process-unfinished a x (frontBytes a ++ PR ++ x) (append-assoc (frontBytes a) PR x) g few l)
 unfinished-refused b (in-states a x g some l) = states-short a x (frontBytes a ++ AU ++ x) (append-assoc (frontBytes a) AU x) g some l
 unfinished-refused b (in-mark-behind-edges s x g l) = end-short s x (recordsBytes s ++ x) refl g l
-unfinished-refused b (in-edge s x g few l) = edge-unfinished s x (recordsBytes s ++ ED ++ x) (append-assoc (recordsBytes s) ED x) g few l
+unfinished-refused b (in-edge s unless x g few l) = edge-unfinished s unless x (recordsBytes s ++ edgeMark unless ++ x) (append-assoc (recordsBytes s) (edgeMark unless) x) g few l

@@ -1,4 +1,5 @@
 -- 01, "Bench cases": their sheets, and the books, annotations and text that are named there; and a sheet of the greatest size.
+use mathlib.Core.Bool.{false}
 use mathlib.Core.List.{List, [], _∷_, _++_}
 use Prim.Native.Nat.{ℕ}
 use lib.ListN.{replicate}
@@ -68,7 +69,7 @@ full inputs outputs = record { inputs = inputs; outputs = outputs; bound = 4 }
 unfoldable pub largest : Sheet
 largest = record {
   architecture = record { variables = 8; environment = 0; root = 0; processes = full 0x3C 0x03 ∷ full 0xF0 0x0C ∷ full 0xC3 0x30 ∷ full 0x0F 0xC0 ∷ [] };
-  automaton = record { states = 16; initial = 15; rejecting = 0xFFFF; edges = replicate 64 (record { from = 15; to = 0; on = 0x0F; off = 0xF0 }) };
+  automaton = record { states = 16; initial = 15; rejecting = 0xFFFF; edges = replicate 64 (record { from = 15; to = 0; on = 0x0F; off = 0xF0; unless = false }) };
 }
 
 -- its bytes

@@ -52,6 +52,10 @@ AU = 0x41 ∷ 0x55 ∷ []
 abbrev pub ED : List ℕ
 ED = 0x45 ∷ 0x44 ∷ []
 
+-- an edge that says unless
+abbrev pub EX : List ℕ
+EX = 0x45 ∷ 0x58 ∷ []
+
 -- the end
 abbrev pub EN : List ℕ
 EN = 0x45 ∷ 0x4E ∷ []
@@ -60,6 +64,11 @@ EN = 0x45 ∷ 0x4E ∷ []
 unfoldable pub marked : List ℕ → ℕ → List ℕ → Bool
 unfolding short
 marked b i m = not (short b i 2) && eqb (byte b i) (byte m 0) && eqb (byte b (i + 1)) (byte m 1)
+
+-- the mark of an edge of either kind stands at i
+unfoldable pub edgeMarked : List ℕ → ℕ → Bool
+unfolding marked
+edgeMarked b i = marked b i ED || marked b i EX
 
 -- ---- what is wrong with the fields of a record
 -- 3: more than 8 variables, more than 4 of the environment or more than all, a root bit that is not the environment's
@@ -140,10 +149,10 @@ readFront b =
     refuse BadArchitecture when arFault (architectureAt b) else
     readProcesses 4 (architectureAt b) b 5
 
--- ---- behind the front: AU, the ED records and EN
--- the fields of the ED at i
+-- ---- behind the front: AU, the ED and EX records and EN
+-- the fields of the ED or EX at i, and its kind
 abbrev pub edgeAt : List ℕ → ℕ → Edge
-edgeAt b i = record { from = byte b (i + 2); to = byte b (i + 3); on = byte b (i + 4); off = byte b (i + 5) }
+edgeAt b i = record { from = byte b (i + 2); to = byte b (i + 3); on = byte b (i + 4); off = byte b (i + 5); unless = marked b i EX }
 
 -- EN, the last, with no byte after it
 unfoldable pub readEnd : List ℕ → ℕ → Reading (List Edge)
@@ -154,7 +163,7 @@ readEnd b i =
     refuse WrongMark when ltb (i + 2) (length b) else
     proper []
 
--- one ED, and then the rest
+-- one ED or EX, and then the rest
 unfoldable pub readEdge : ℕ → ℕ → List ℕ → ℕ → Reading (List Edge) → Reading (List Edge)
 unfolding refuse_when_else_ _then_ short edFault
 readEdge variables states b i rest =
@@ -162,13 +171,13 @@ readEdge variables states b i rest =
     refuse BadEdge when edFault variables states (edgeAt b i) else
     rest then λ es. proper (edgeAt b i ∷ es)
 
--- at most k more ED, then EN
+-- at most k more ED and EX, then EN
 unfoldable pub readEdges : ℕ → ℕ → ℕ → List ℕ → ℕ → Reading (List Edge)
-unfolding if marked readEdge readEnd
+unfolding if edgeMarked readEdge readEnd
 readEdges variables states zero b i = readEnd b i
 readEdges variables states (suc k) b i =
     let rest = readEdges variables states k b (i + 6) in
-    if (marked b i ED) (readEdge variables states b i rest) (readEnd b i)
+    if (edgeMarked b i) (readEdge variables states b i rest) (readEnd b i)
 
 -- AU, behind one PR or more, then the edges; at AU, 5 before 6
 unfoldable pub readAutomaton : Architecture → List ℕ → ℕ → Reading Automaton

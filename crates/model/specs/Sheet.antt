@@ -20,14 +20,15 @@ pub record Architecture : Type 0 where
   pub root : ℕ
   pub processes : List Process
 
--- ED: an edge between automaton states, met by a label with all of `on` and none of `off`
+-- ED and EX: an edge between automaton states. An ED is met by a label with all of `on` and none of `off`, an EX by any other: it says unless
 pub record Edge : Type 0 where
   pub from : ℕ
   pub to : ℕ
   pub on : ℕ
   pub off : ℕ
+  pub unless : Bool
 
--- AU and every ED: a universal co-Büchi automaton
+-- AU and every ED and EX, in file order: a universal co-Büchi automaton
 pub record Automaton : Type 0 where
   pub states : ℕ
   pub initial : ℕ
@@ -98,7 +99,7 @@ pub record ProperArchitecture (a : Architecture) : Type 0 where
   pub all-owned : (i : ℕ) → a .environment ≤ i → i < a .variables → owned (a .processes) i ≡ true
   pub few-composed : composedStates (a .environment) (a .processes) ≤ 256
 
--- an edge: known states and variables, on and off apart
+-- an edge of either kind: known states and variables, on and off apart
 pub record ProperEdge (variables states : ℕ) (e : Edge) : Type 0 where
   pub from-known : e .from < states
   pub to-known : e .to < states
@@ -110,7 +111,7 @@ pub record ProperEdge (variables states : ℕ) (e : Edge) : Type 0 where
 abbrev pub ProperEdges : (variables states : ℕ) → List Edge → Type 0
 ProperEdges variables states es = (e : Edge) → List·Memᴰ e es → ProperEdge variables states e
 
--- AU and every ED, over so many variables
+-- AU and every ED and EX, over so many variables
 pub record ProperAutomaton (variables : ℕ) (u : Automaton) : Type 0 where
   pub some-states : 1 ≤ u .states
   pub few-states : u .states ≤ 16

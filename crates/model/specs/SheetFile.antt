@@ -1,5 +1,6 @@
 -- 01, "The sheet file" and refusals 1 to 7 a second time, without a reader: how a sheet is written, and which rows of bytes are none.
 use mathlib.Core.Path.{_≡_}
+use mathlib.Core.Bool.{Bool}
 use mathlib.Core.Logic.{_⊎_}
 use mathlib.Core.List.{List, [], _∷_, _++_}
 use Prim.Native.Nat.{ℕ, _/_, _%_, _≤_, _<_}
@@ -7,16 +8,23 @@ use lib.ListN.{length}
 use Rattle.model.specs.declared.Refusal.{Refusal}
 use Rattle.model.specs.declared.Refusal.the-variants.{WrongMark, BadArchitecture, BadProcess, NoOwnerOrTooMany, BadAutomaton, BadEdge}
 use Rattle.model.specs.Sheet.{Process, Architecture, Edge, Automaton, Sheet, withProcess, withEdge, ProperFront, ProperArchitecture, ProperAutomaton, ProperSheet}
-use Rattle.model.specs.Reading.{AR, PR, AU, ED, EN, byte}
+use Rattle.model.specs.Mask.{if}
+use Rattle.model.specs.Reading.{AR, PR, AU, ED, EX, EN, byte}
 
 -- ---- the records, each its mark and its fields
 -- PR
 unfoldable pub processBytes : Process → List ℕ
 processBytes p = PR ++ (p .inputs ∷ p .outputs ∷ p .bound ∷ [])
 
--- ED
+-- the mark of an edge: EX where it says unless, and otherwise ED
+unfoldable pub edgeMark : Bool → List ℕ
+unfolding if
+edgeMark unless = if unless EX ED
+
+-- ED or EX
 unfoldable pub edgeBytes : Edge → List ℕ
-edgeBytes e = ED ++ (e .from ∷ e .to ∷ e .on ∷ e .off ∷ [])
+unfolding edgeMark
+edgeBytes e = edgeMark (e .unless) ++ (e .from ∷ e .to ∷ e .on ∷ e .off ∷ [])
 
 -- AU: the rejecting mask in two bytes, low byte first
 unfoldable pub statesBytes : Automaton → List ℕ
@@ -39,7 +47,7 @@ unfoldable pub frontBytes : Architecture → List ℕ
 unfolding processesBytes
 frontBytes a = AR ++ (a .variables ∷ a .environment ∷ a .root ∷ []) ++ processesBytes (a .processes)
 
--- AU and every ED
+-- AU and every ED and EX
 unfoldable pub automatonBytes : Automaton → List ℕ
 unfolding statesBytes edgesBytes
 automatonBytes u = statesBytes u ++ edgesBytes (u .edges)
@@ -63,9 +71,9 @@ Bytes b = (i : ℕ) → byte b i < 256
 abbrev pub FollowsFront : Architecture → List ℕ → Type 0
 FollowsFront a m = ((m ≡ PR) × (length (a .processes) < 4)) ⊎ ((m ≡ AU) × (1 ≤ length (a .processes)))
 
--- behind AU and the ED: an ED up to the 64th, EN
+-- behind AU and the edges: an ED or an EX up to the 64th of both together, EN
 abbrev pub FollowsEdges : Automaton → List ℕ → Type 0
-FollowsEdges u m = ((m ≡ ED) × (length (u .edges) < 64)) ⊎ (m ≡ EN)
+FollowsEdges u m = (((m ≡ ED) ⊎ (m ≡ EX)) × (length (u .edges) < 64)) ⊎ (m ≡ EN)
 
 -- ---- 1: the row ends within a mark, or within the record of a mark that may stand there
 pub data Unfinished : List ℕ → Type 0 where
@@ -75,7 +83,7 @@ pub data Unfinished : List ℕ → Type 0 where
   in-process : (a : Architecture) (x : List ℕ) → ProperFront a → length (a .processes) < 4 → length x < 3 → Unfinished (frontBytes a ++ PR ++ x)
   in-states : (a : Architecture) (x : List ℕ) → ProperFront a → 1 ≤ length (a .processes) → length x < 4 → Unfinished (frontBytes a ++ AU ++ x)
   in-mark-behind-edges : (s : Sheet) (x : List ℕ) → ProperSheet s → length x < 2 → Unfinished (recordsBytes s ++ x)
-  in-edge : (s : Sheet) (x : List ℕ) → ProperSheet s → length (s .automaton .edges) < 64 → length x < 4 → Unfinished (recordsBytes s ++ ED ++ x)
+  in-edge : (s : Sheet) (unless : Bool) (x : List ℕ) → ProperSheet s → length (s .automaton .edges) < 64 → length x < 4 → Unfinished (recordsBytes s ++ edgeMark unless ++ x)
 
 -- ---- 2 to 7: the row ends with its first faulty record, which makes the proper ones before it improper
 pub data Faulty : List ℕ → Refusal → Type 0 where

@@ -1,4 +1,4 @@
--- Reading on behind edges that were read: an ED and then the rest, or EN, is the reading of the whole; and AU, behind which no edge was read yet.
+-- Reading on behind edges that were read: one edge and then the rest, or EN, is the reading of the whole; and AU, behind which no edge was read yet.
 use mathlib.Core.Path.{_≡_, refl, sym, ap, _∙_}
 use mathlib.Core.Bool.{Bool, true, false, _||_, not}
 use mathlib.Core.List.{List, [], _∷_, append-assoc, append-nil}
@@ -11,7 +11,7 @@ use Rattle.model.specs.declared.Refusal.{Refusal}
 use Rattle.model.specs.declared.Refusal.the-variants.{SheetTooShort, WrongMark, NoOwnerOrTooMany, BadEdge}
 use Rattle.model.specs.Mask.{if}
 use Rattle.model.specs.Sheet.{Architecture, Edge, Automaton, withEdge}
-use Rattle.model.specs.Reading.{Reading, refused, proper, refuse_when_else_, _then_, byte, short, marked, AU, ED, EN, edgeAt, allFault, edFault}
+use Rattle.model.specs.Reading.{Reading, refused, proper, refuse_when_else_, _then_, byte, short, marked, edgeMarked, AU, EN, edgeAt, allFault, edFault}
 use Rattle.model.specs.Reading.{readEnd, readEdge, readEdges, readAutomaton}
 use Rattle.model.proofs.ProperSheet.{passes}
 use Rattle.automaton.specs.declared.Automaton as Struct
@@ -51,7 +51,7 @@ module _ (u : Automaton) (b : List ℕ) (i : ℕ) where
       (behind-refuse u WrongMark (ltb (i + 2) (length b)) _ ∙ ap (refuse_when_else_ WrongMark (ltb (i + 2) (length b))) (behind-none u)))
 
   module _ (variables : ℕ) where
-    pub edges-none : (k : ℕ) → marked b i ED ≡ false → edgesFrom k variables u b i ≡ endFrom u b i
+    pub edges-none : (k : ℕ) → edgeMarked b i ≡ false → edgesFrom k variables u b i ≡ endFrom u b i
     unfolding edgesFrom endFrom readEdges if
     edges-none zero h = refl
     edges-none (suc k) h = rw h
@@ -60,7 +60,7 @@ module _ (u : Automaton) (b : List ℕ) (i : ℕ) where
     unfolding edgesFrom endFrom readEdges
     edges-last = refl
 
-    -- one ED, and then what follows it
+    -- one edge, and then what follows it
     edge-then : (rest : Reading (List Edge)) (f : Automaton → Reading Automaton) → behind (withEdge u (edgeAt b i)) rest ≡ f (withEdge u (edgeAt b i))
         → behind u (readEdge variables (u .states) b i rest) ≡ (edgeFrom variables u b i then f)
     unfolding edgeFrom readEdge _then_
@@ -71,7 +71,7 @@ module _ (u : Automaton) (b : List ℕ) (i : ℕ) where
         (behind-refuse u BadEdge fault _ ∙ ap (refuse_when_else_ BadEdge fault) (behind-cons u (edgeAt b i) rest ∙ e) ∙ sym (refuse-then BadEdge fault _ f))
         ∙ sym (refuse-then SheetTooShort (short b i 6) _ f)
 
-    pub edges-turn : (m n : ℕ) → n < m → marked b i ED ≡ true
+    pub edges-turn : (m n : ℕ) → n < m → edgeMarked b i ≡ true
         → edgesFrom (m - n) variables u b i ≡ (edgeFrom variables u b i then λ v. edgesFrom (m - (n + 1)) variables v b (i + 6))
     unfolding edgesFrom readEdges if withEdge
     edges-turn m n l h =
@@ -90,7 +90,7 @@ module _ (u : Automaton) (b : List ℕ) (i : ℕ) where
 pub edge-count : (x y : Struct.Automaton) (e : Edge) → automatonOf y ≡ withEdge (automatonOf x) e → y .edges ≡ x .edges + 1
 unfolding withEdge automatonOf
 edge-count x y e h =
-    let many : (u : Struct.Automaton) → length (automatonOf u .edges) ≡ u .edges = λ u. edges-length (u .edges) (u .from) (u .to) (u .on) (u .off) in
+    let many : (u : Struct.Automaton) → length (automatonOf u .edges) ≡ u .edges = λ u. edges-length (u .edges) (u .from) (u .to) (u .on) (u .off) (u .unless) in
     omega (arith, many x, many y, ap (λ (u : Automaton). length (u .edges)) h, length-append (automatonOf x .edges) (e ∷ []))
 
 -- what the loop over the edges keeps: reading on from `at`, behind those of u, is reading from the start

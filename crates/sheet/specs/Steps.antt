@@ -10,7 +10,7 @@ unfoldable pub processFrom : Architecture → List ℕ → ℕ → Reading Front
 unfolding readProcess withProcess
 processFrom a b i = readProcess a b i (proper record { architecture = withProcess a (processAt b i); end = i + 5 })
 
--- one ED behind those of u
+-- one ED or EX behind those of u
 unfoldable pub edgeFrom : ℕ → Automaton → List ℕ → ℕ → Reading Automaton
 unfolding refuse_when_else_ short edFault withEdge
 edgeFrom variables u b i =
@@ -32,7 +32,7 @@ unfoldable pub endFrom : Automaton → List ℕ → ℕ → Reading Automaton
 unfolding behind readEnd
 endFrom u b i = behind u (readEnd b i)
 
--- at most k more ED, then EN
+-- at most k more ED and EX, then EN
 unfoldable pub edgesFrom : ℕ → ℕ → Automaton → List ℕ → ℕ → Reading Automaton
 unfolding behind readEdges
 edgesFrom k variables u b i = behind u (readEdges variables (u .states) k b i)

@@ -1,17 +1,18 @@
-// Behind the front of a sheet: AU, the ED records and EN.
+// Behind the front of a sheet: AU, the ED and EX records and EN.
 ghost use mathlib.Core.Path.{_≡_};
 ghost use mathlib.Core.Bool.{_||_, not};
 ghost use Prim.Native.Nat.{_+_, _*_, _<_, _≤_};
 ghost use lib.Dec.{eqb};
 ghost use lib.ListN.{length};
-ghost use Rattle.model.specs.Reading.{marked, AU as markAU, refused, readAutomaton};
+ghost use Rattle.model.specs.Reading.{marked, edgeMarked, AU as markAU, edgeAt, refused, readAutomaton};
 ghost use Rattle.architecture.specs.Struct.{architectureOf};
-ghost use Rattle.automaton.specs.Struct.{automatonOf, Arrays};
+ghost use Rattle.automaton.specs.Struct.{edgeOf, automatonOf, Arrays};
 ghost use Rattle.sheet.specs.Struct.{FrontKnown, AutomatonReads};
 ghost use Rattle.sheet.specs.Steps.{edgeFrom, endFrom, edgesFrom, statesFrom};
 use super::AU;
 use super::ED;
 use super::EN;
+use super::EX;
 use super::FrontRead;
 use super::faults::all_fault;
 use super::faults::au_fault;
@@ -45,7 +46,21 @@ fn refuse(refusal: Refusal, automaton: Automaton) -> AutomatonRead
     }
 }
 
-// One ED more, behind those that were read.
+// The fields of the ED or EX at `at`, and its kind.
+fn edge_at(sheet: &[u8], at: usize) -> Edge
+    requires { ⌜ at + 6 ≤ length (now sheet) ⌝ }
+    ensures { λ r. ⌜ edgeOf r ≡ edgeAt (now (sheet .entry)) at ⌝ }
+{
+    Edge {
+        from: AutomatonState(sheet[at + 2]),
+        to: AutomatonState(sheet[at + 3]),
+        on: sheet[at + 4],
+        off: sheet[at + 5],
+        unless: is_marked(sheet, at, &EX),
+    }
+}
+
+// One ED or EX more, behind those that were read.
 fn read_edge(sheet: &[u8], at: usize, variables: u8, so_far: Automaton) -> AutomatonRead
     requires { ⌜ (at ≤ length (now sheet)) × (variables ≤ 8) ⌝ }
     requires { ⌜ Arrays «so_far» ⌝ }
@@ -55,12 +70,7 @@ fn read_edge(sheet: &[u8], at: usize, variables: u8, so_far: Automaton) -> Autom
     if sheet.len() - at < 6 {
         return refuse(Refusal::SheetTooShort, so_far);
     }
-    let edge = Edge {
-        from: AutomatonState(sheet[at + 2]),
-        to: AutomatonState(sheet[at + 3]),
-        on: sheet[at + 4],
-        off: sheet[at + 5],
-    };
+    let edge = edge_at(sheet, at);
     if ed_fault(variables, so_far.states, edge) {
         return refuse(Refusal::BadEdge, so_far);
     }
@@ -92,7 +102,18 @@ fn read_end(sheet: &[u8], at: usize, so_far: Automaton) -> AutomatonRead
     }
 }
 
-// From `start` on: the ED records, and EN.
+// An edge of either kind opens at `at`.
+fn is_edge(sheet: &[u8], at: usize) -> bool
+    requires { ⌜ at ≤ length (now sheet) ⌝ }
+    ensures { λ r. ⌜ r ≡ edgeMarked (now (sheet .entry)) at ⌝ }
+{
+    if is_marked(sheet, at, &ED) {
+        return true;
+    }
+    is_marked(sheet, at, &EX)
+}
+
+// From `start` on: the ED and EX records, and EN.
 fn read_edges(sheet: &[u8], start: usize, variables: u8, first: Automaton) -> AutomatonRead
     requires { ⌜ (start ≤ length (now sheet)) × (variables ≤ 8) ⌝ }
     requires { ⌜ Arrays first ⌝ }
@@ -102,7 +123,7 @@ fn read_edges(sheet: &[u8], start: usize, variables: u8, first: Automaton) -> Au
     let mut read = first;
     let mut at = start;
     while read.edges < 64 {
-        if !is_marked(sheet, at, &ED) {
+        if !is_edge(sheet, at) {
             return read_end(sheet, at, read);
         }
         let next = read_edge(sheet, at, variables, read);
@@ -116,7 +137,7 @@ fn read_edges(sheet: &[u8], start: usize, variables: u8, first: Automaton) -> Au
     read_end(sheet, at, read)
 }
 
-// The fields of the AU at `at`, the ED records and EN.
+// The fields of the AU at `at`, the ED and EX records and EN.
 fn read_states(sheet: &[u8], at: usize, variables: u8) -> AutomatonRead
     requires { ⌜ (at + 6 ≤ length (now sheet)) × (variables ≤ 8) ⌝ }
     ensures { λ r. ⌜ AutomatonReads r (statesFrom variables (now (sheet .entry)) at) ⌝ }
@@ -142,7 +163,7 @@ fn lacks_automaton(sheet: &[u8], at: usize, processes: usize) -> bool
     processes == 0
 }
 
-// Behind this front: AU, the ED records and EN.
+// Behind this front: AU, the ED and EX records and EN.
 pub fn read_automaton(sheet: &[u8], front: FrontRead) -> AutomatonRead
     requires { ⌜ FrontKnown (now sheet) front ⌝ }
     ensures { λ r. ⌜ AutomatonReads r (readAutomaton (architectureOf (front .architecture)) (now (sheet .entry)) (front .end)) ⌝ }

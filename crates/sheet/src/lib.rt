@@ -32,6 +32,8 @@ pub const AU: [u8; 2] = *b"AU";
 
 pub const ED: [u8; 2] = *b"ED";
 
+pub const EX: [u8; 2] = *b"EX";
+
 pub const EN: [u8; 2] = *b"EN";
 
 // An architecture with its state bounds, and an automaton.

@@ -3,13 +3,13 @@ use mathlib.Core.Path.{refl}
 use Rattle.model.specs.Mask.{pack}
 use Rattle.model.specs.Compose.{step, initial, T, number, composed}
 use Rattle.model.specs.Choice.{entries, lowered, padRows, padded}
-use Rattle.model.specs.RunGraph.{start, meets}
+use Rattle.model.specs.RunGraph.{start, meets, met}
 use Rattle.model.specs.Computed.{successors}
 use Rattle.model.specs.Calls.{checkOf, findOf, judgeOf, annotateOf, writeOf, readOf, partOf}
 use Rattle.starred.specs.Examples.{Pinned}
 
 pub every-example : Pinned
-unfolding pack step initial T number composed entries lowered padRows padded start meets successors checkOf findOf judgeOf annotateOf writeOf readOf partOf
+unfolding pack step initial T number composed entries lowered padRows padded start meets met successors checkOf findOf judgeOf annotateOf writeOf readOf partOf
 every-example = record {
   index-rises = refl;
   index-of-eight = refl;
@@ -24,6 +24,12 @@ every-example = record {
   never-raised = refl;
   starts = refl;
   off-needs-none = refl;
+  unless-one-missing = refl;
+  unless-off-there = refl;
+  unless-neither = refl;
+  unless-elsewhere = refl;
+  waits-unless = refl;
+  never-met = refl;
   follows = refl;
   counts-each = refl;
   start-counts = refl;
@@ -46,6 +52,8 @@ every-example = record {
   five-before-six = refl;
   seventeen-states = refl;
   shared-bit = refl;
+  unless-shared-bit = refl;
+  unless-cut = refl;
   book-buffer-short = refl;
   annotation-buffer-short = refl;
   book-before-entries = refl;

@@ -1,21 +1,21 @@
 -- Small examples beside the bench cases, whose rows are constant and whose roots are 0: each refuses a definition that all bench cases would let pass.
 use mathlib.Core.Path.{_≡_}
-use mathlib.Core.Bool.{false}
+use mathlib.Core.Bool.{true, false}
 use mathlib.Core.List.{List, [], _∷_, _++_}
 use Prim.Native.Nat.{ℕ}
-use lib.ListN.{replicate}
+use lib.ListN.{replicate, take}
 use Rattle.model.specs.declared.Finding.the-variants.{Yes, No}
 use Rattle.model.specs.declared.Verdict.{Verdict}
 use Rattle.model.specs.Mask.{pack}
-use Rattle.model.specs.Sheet.{Process, Architecture, Sheet}
+use Rattle.model.specs.Sheet.{Process, Architecture, Edge, Sheet}
 use Rattle.model.specs.Compose.{Composed, step, initial, T, number, composed}
 use Rattle.model.specs.Choice.{Entry, output, next, entries, lowered, padRows, padded}
-use Rattle.model.specs.RunGraph.{start, meets}
+use Rattle.model.specs.RunGraph.{start, meets, met}
 use Rattle.model.specs.Computed.{successors}
 use Rattle.model.specs.Calls.{checkOf, findOf, judgeOf, annotateOf, writeOf, readOf, partOf}
 use Rattle.model.specs.Numbers.{replyCode, verdictCode, outcomeCode}
-use Rattle.model.specs.BenchCases.{sheetA, sheetE, edge, choiceA, bookA, bookE}
-use Rattle.starred.specs.Table.{buffer, annotated}
+use Rattle.model.specs.BenchCases.{sheetA, sheetE, edge, choiceA, bookA, annotationA, bookE}
+use Rattle.starred.specs.Table.{buffer, found, annotated}
 
 -- ---- two processes that read each other
 -- variable 0 is the environment's and 1 at the start; process 0 reads variables 0 and 2, and process 1 variable 1
@@ -56,7 +56,7 @@ watched = record {
     states = 3;
     initial = 2;
     rejecting = 0x01;
-    edges = record { from = 2; to = 1; on = 0x04; off = 0x02 } ∷ record { from = 2; to = 0; on = 0x02; off = 0x00 } ∷ [];
+    edges = record { from = 2; to = 1; on = 0x04; off = 0x02; unless = false } ∷ record { from = 2; to = 0; on = 0x02; off = 0x00; unless = false } ∷ [];
   };
 }
 
@@ -77,6 +77,10 @@ au states start rejecting = 0x41 ∷ 0x55 ∷ states ∷ start ∷ rejecting ∷
 abbrev pub ed : ℕ → ℕ → ℕ → ℕ → List ℕ
 ed from to on off = 0x45 ∷ 0x44 ∷ from ∷ to ∷ on ∷ off ∷ []
 
+-- EX: the same fields
+abbrev pub ex : ℕ → ℕ → ℕ → ℕ → List ℕ
+ex from to on off = 0x45 ∷ 0x58 ∷ from ∷ to ∷ on ∷ off ∷ []
+
 -- EN
 abbrev pub en : List ℕ
 en = 0x45 ∷ 0x4E ∷ []
@@ -96,6 +100,18 @@ climbing = tb 0 1 1 ++ tb 1 1 2 ++ tb 2 1 3 ++ tb 3 0 3 ++ en
 -- case J: four environment variables, two processes of bound 4, then these records
 abbrev pub sheetJ : List ℕ → List ℕ
 sheetJ more = ar 4 4 0 ++ pr 0 0 4 ++ pr 0 0 4 ++ more ++ au 1 0 0 ++ en
+
+-- three environment variables, one automaton state, and behind AU these bytes
+abbrev pub behindAU : List ℕ → List ℕ
+behindAU more = ar 3 3 0 ++ pr 0 0 1 ++ au 1 0 0 ++ more
+
+-- case A, whose two waiting edges say `unless granted`
+abbrev pub waiting : List ℕ
+waiting = ar 4 2 0 ++ pr 0x03 0x0C 2 ++ au 4 0 0x0E ++ ed 0 0 0 0 ++ ed 0 3 0x0C 0 ++ ed 0 1 0x01 0 ++ ed 0 2 0x02 0 ++ ex 1 1 0x04 0 ++ ex 2 2 0x08 0 ++ ed 3 3 0 0 ++ en
+
+-- an EX from state 1, with these masks
+abbrev pub unless : ℕ → ℕ → Edge
+unless on off = record { from = 1; to = 0; on = on; off = off; unless = true }
 
 -- case E
 abbrev pub caseE : List ℕ
@@ -137,7 +153,19 @@ pub record Pinned : Type 0 where
   -- the initial automaton state, not 0, with the root mask, not 0
   pub starts : start watched ≡ 25
   -- none of the off mask, where the label has one bit of two
-  pub off-needs-none : meets (record { from = 0; to = 0; on = 0x00; off = 0x03 }) 0x05 ≡ false
+  pub off-needs-none : meets (record { from = 0; to = 0; on = 0x00; off = 0x03; unless = false }) 0x05 ≡ false
+  -- unless two: met where one of them is missing, and not only where both are
+  pub unless-one-missing : meets (unless 0x03 0x00) 0x01 ≡ true
+  -- where all of on is there, but something of off too
+  pub unless-off-there : meets (unless 0x01 0x02) 0x03 ≡ true
+  -- and where neither is
+  pub unless-neither : meets (unless 0x01 0x02) 0x00 ≡ true
+  -- at other automaton states it is not met
+  pub unless-elsewhere : met (unless 0x01 0x00) 0 0x00 ≡ false
+  -- waiting while not granted is waiting unless granted
+  pub waits-unless : annotateOf waiting bookA (buffer 32) ≡ annotated annotationA
+  -- case F with its edge as an EX: masks 00 are never met
+  pub never-met : findOf (sheetE 1 1 1 (ex 0 0 0 0)) (buffer 8) (buffer 1) ≡ found bookE (1 ∷ [])
   -- from automaton state 2 at (1, 0, 1): the label before the step (05) meets the first edge only; both directions
   pub follows : successors watched tables 29 ≡ 22 ∷ 21 ∷ []
   -- each entry counts, the one at the start too: 4 with one rejecting state, which is T times the rejecting states
@@ -176,7 +204,10 @@ pub record Pinned : Type 0 where
   -- 6: more than 16 automaton states
   pub seventeen-states : replyCode (checkOf (sheetE 1 17 0 [])) ≡ 6
   -- 7: masks that share one bit of two
-  pub shared-bit : replyCode (checkOf (ar 3 3 0 ++ pr 0 0 1 ++ au 1 0 0 ++ ed 0 0 0x03 0x06)) ≡ 7
+  pub shared-bit : replyCode (checkOf (behindAU (ed 0 0 0x03 0x06))) ≡ 7
+  -- of an EX too, though it would always be met; one that is cut off is 1
+  pub unless-shared-bit : replyCode (checkOf (behindAU (ex 0 0 0x03 0x06))) ≡ 7
+  pub unless-cut : replyCode (checkOf (behindAU (take 5 (ex 0 0 0 0)))) ≡ 1
   -- 8 even if the result would be `none`, and before 9
   pub book-buffer-short : outcomeCode (findOf caseF (buffer 7) [] .answer) ≡ 8
   -- 9 for fewer numbers than T times the automaton states, not than T

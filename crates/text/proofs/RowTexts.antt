@@ -68,20 +68,20 @@ module _ (one : ℕ → Process → ℕ → List ℕ) (a : Architecture) where
   processes-none j e = rw (← e, processes-end (a .inputs) (a .outputs) (a .bounds) (a .processes))
 
 -- ---- edges
-module _ (template : List ℕ) (u : Automaton) where
+module _ (ed ex : List ℕ) (u : Automaton) where
   -- the text from edge j on
   abbrev pub edgesFrom : ℕ → List ℕ
-  edgesFrom j = edgesText template (drop j (edges.firstIn u (u .edges)))
+  edgesFrom j = edgesText ed ex (drop j (edges.firstIn u (u .edges)))
 
   -- edge j, and those after it
-  pub edges-open : (j : ℕ) (e : Edge) → e ≡ edges.edgeIn u j → j < u .edges → Opens (edgesFrom j) (edgeText template e) (edgesFrom (j + 1))
+  pub edges-open : (j : ℕ) (e : Edge) → e ≡ edges.edgeIn u j → j < u .edges → Opens (edgesFrom j) (edgeText ed ex e) (edgesFrom (j + 1))
   unfolding edgesText
-  edges-open j e is h = record { is = rw (edge-next (u .from) (u .to) (u .on) (u .off) (u .edges) j h, is) }
+  edges-open j e is h = record { is = rw (edge-next (u .from) (u .to) (u .on) (u .off) (u .unless) (u .edges) j h, is) }
 
   -- no edge is left
   pub edges-none : (j : ℕ) → u .edges ≡ j → edgesFrom j ≡ []
   unfolding edgesText
-  edges-none j e = rw (← e, edges-end (u .from) (u .to) (u .on) (u .off) (u .edges))
+  edges-none j e = rw (← e, edges-end (u .from) (u .to) (u .on) (u .off) (u .unless) (u .edges))
 
 -- ---- a row
 -- the part that the code cuts out

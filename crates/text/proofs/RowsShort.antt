@@ -1,11 +1,13 @@
 -- How long the texts of numbers, of processes and of edges are together, where each has at most so many bytes.
 use mathlib.Core.Path.{refl}
+use mathlib.Core.Bool.{Bool, true, false}
 use mathlib.Core.List.{List, [], _∷_, List·Memᴰ·head, List·Memᴰ·tail}
 use Prim.Native.Nat.{ℕ, zero, suc, _+_, _*_, _^_, _<_, _≤_}
 use native.Mathlib.Nat.{suc-mul}
 use native.Mathlib.Omega.{arith}
 use lib.Pow.{pow-mono}
 use lib.ListN.{length, length-append}
+use Rattle.model.specs.Mask.{if}
 use Rattle.model.specs.Sheet.{Process, Edge, ProperProcess, ProperProcesses, ProperEdge, ProperEdges}
 use Rattle.model.specs.Compose.{processLength}
 use Rattle.template.proofs.FilledShort.{longest, filled-short}
@@ -31,21 +33,29 @@ module _ {v e : ℕ} (one : ℕ → Process → ℕ → List ℕ) (m limit : ℕ
         suc-mul (length ps) m,
       )
 
--- an edge's states and masks have at most 3 digits
-module _ {v states : ℕ} (few : v ≤ 8) (known : states ≤ 16) (template : List ℕ) where
-  edge-short : (e : Edge) → ProperEdge v states e → length (edgeText template e) ≤ longest 2 template
+-- an edge's states and masks have at most 3 digits; the template of neither kind grows beyond m
+module _ {v states : ℕ} (few : v ≤ 8) (known : states ≤ 16) (ed ex : List ℕ) (m : ℕ) (ed-short : longest 2 ed ≤ m) (ex-short : longest 2 ex ≤ m) where
+  kind-short : (unless : Bool) → longest 2 (if unless ex ed) ≤ m
+  unfolding if
+  kind-short true = ex-short
+  kind-short false = ed-short
+
+  edge-short : (e : Edge) → ProperEdge v states e → length (edgeText ed ex e) ≤ m
+  unfolding edgeText
   edge-short e own =
       let masks : 2 ^ v ≤ 256 = pow-mono {i = v} {j = 8} few in
-      filled-short 2 template _ (omega (arith, own .from-known), (omega (arith, own .to-known), (omega (arith, own .on-known), (omega (arith, own .off-known), tt))))
+      let short = filled-short 2 (if (e .unless) ex ed) (e .from ∷ e .to ∷ e .on ∷ e .off ∷ [])
+      (omega (arith, own .from-known), (omega (arith, own .to-known), (omega (arith, own .on-known), (omega (arith, own .off-known), tt)))) in
+      omega (arith, short, kind-short (e .unless))
 
-  pub edges-short : (es : List Edge) → ProperEdges v states es → length (edgesText template es) ≤ length es * longest 2 template
+  pub edges-short : (es : List Edge) → ProperEdges v states es → length (edgesText ed ex es) ≤ length es * m
   unfolding edgesText
   edges-short [] g = omega arith
   edges-short (e ∷ es) g =
       omega (
         arith,
-        length-append (edgeText template e) (edgesText template es),
+        length-append (edgeText ed ex e) (edgesText ed ex es),
         edge-short e (g e (List·Memᴰ·head refl)),
         edges-short es (λ q m. g q (List·Memᴰ·tail m)),
-        suc-mul (length es) (longest 2 template),
+        suc-mul (length es) m,
       )

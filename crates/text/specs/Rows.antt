@@ -2,6 +2,7 @@
 use mathlib.Core.List.{List, [], _∷_, _++_}
 use Prim.Native.Nat.{ℕ, zero, suc, _+_}
 use lib.ListN.{take, drop}
+use Rattle.model.specs.Mask.{if}
 use Rattle.model.specs.Sheet.{Process, Edge}
 use Rattle.model.specs.Compose.{rowLength, processLength, rowAt}
 use Rattle.template.specs.Template.{filled}
@@ -24,11 +25,17 @@ unfoldable pub eachProcess : (ℕ → Process → ℕ → List ℕ) → ℕ → 
 eachProcess one i [] at = []
 eachProcess one i (p ∷ ps) at = one i p at ++ eachProcess one (suc i) ps (at + processLength p)
 
--- an edge: its states and its masks fill the template
-abbrev pub edgeText : List ℕ → Edge → List ℕ
-edgeText template e = filled template (e .from ∷ e .to ∷ e .on ∷ e .off ∷ [])
+-- the states and the masks of an edge fill the template
+abbrev pub fieldsText : List ℕ → Edge → List ℕ
+fieldsText template e = filled template (e .from ∷ e .to ∷ e .on ∷ e .off ∷ [])
 
--- edges, each by the same template
-unfoldable pub edgesText : List ℕ → List Edge → List ℕ
-edgesText template [] = []
-edgesText template (e ∷ es) = edgeText template e ++ edgesText template es
+-- an edge, by the template of its kind
+unfoldable pub edgeText : List ℕ → List ℕ → Edge → List ℕ
+unfolding if
+edgeText ed ex e = fieldsText (if (e .unless) ex ed) e
+
+-- edges, each by the template of its kind
+unfoldable pub edgesText : List ℕ → List ℕ → List Edge → List ℕ
+unfolding edgeText
+edgesText ed ex [] = []
+edgesText ed ex (e ∷ es) = edgeText ed ex e ++ edgesText ed ex es

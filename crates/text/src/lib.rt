@@ -9,7 +9,7 @@ ghost use Rattle.architecture.specs.Struct.{IsProper, architectureOf, processIn
 ghost use Rattle.automaton.specs.Struct.{Arrays, edgeOf, firstIn as edgesIn};
 ghost use Rattle.append.specs.Appends.{Appends};
 ghost use Rattle.template.specs.Holds.{Holds};
-ghost use Rattle.text.specs.Rows.{rowOf, edgeText, edgesText};
+ghost use Rattle.text.specs.Rows.{rowOf, fieldsText, edgeText, edgesText};
 ghost use Rattle.text.specs.Text as spec;
 use architecture::Architecture;
 use automaton::Automaton;
@@ -111,10 +111,10 @@ fn put_tables(text: &mut [u8], start: usize, a: Architecture, tables: &[u8]) -> 
 }
 
 // ---- edges
-// An edge: its states and its masks fill the template.
-fn put_edge(text: &mut [u8], at: usize, template: &[u8], edge: Edge) -> usize
-    requires { ⌜ at + length (edgeText (now template) (edgeOf edge)) ≤ length (now text) ⌝ }
-    ensures { λ r. ⌜ Appends (now (text .entry)) at (edgeText (now (template .entry)) (edgeOf edge)) r (now (text .exit)) ⌝ }
+// The states and the masks of an edge fill the template.
+fn put_fields(text: &mut [u8], at: usize, template: &[u8], edge: Edge) -> usize
+    requires { ⌜ at + length (fieldsText (now template) (edgeOf edge)) ≤ length (now text) ⌝ }
+    ensures { λ r. ⌜ Appends (now (text .entry)) at (fieldsText (now (template .entry)) (edgeOf edge)) r (now (text .exit)) ⌝ }
 {
     put_filled(
         text,
@@ -129,17 +129,28 @@ fn put_edge(text: &mut [u8], at: usize, template: &[u8], edge: Edge) -> usize
     )
 }
 
-// All edges, each by the same template.
-pub fn put_edges(text: &mut [u8], start: usize, template: &[u8], u: Automaton) -> usize
+// An edge, by the template of its kind.
+fn put_edge(text: &mut [u8], at: usize, ed: &[u8], ex: &[u8], edge: Edge) -> usize
+    requires { ⌜ at + length (edgeText (now ed) (now ex) (edgeOf edge)) ≤ length (now text) ⌝ }
+    ensures { λ r. ⌜ Appends (now (text .entry)) at (edgeText (now (ed .entry)) (now (ex .entry)) (edgeOf edge)) r (now (text .exit)) ⌝ }
+{
+    if edge.unless {
+        return put_fields(text, at, ex, edge);
+    }
+    put_fields(text, at, ed, edge)
+}
+
+// All edges, each by the template of its kind.
+pub fn put_edges(text: &mut [u8], start: usize, ed: &[u8], ex: &[u8], u: Automaton) -> usize
     requires { ⌜ Arrays u ⌝ }
-    requires { ⌜ start + length (edgesText (now template) (edgesIn u (u .edges))) ≤ length (now text) ⌝ }
-    ensures { λ r. ⌜ Appends (now (text .entry)) start (edgesText (now (template .entry)) (edgesIn u (u .edges))) r (now (text .exit)) ⌝ }
+    requires { ⌜ start + length (edgesText (now ed) (now ex) (edgesIn u (u .edges))) ≤ length (now text) ⌝ }
+    ensures { λ r. ⌜ Appends (now (text .entry)) start (edgesText (now (ed .entry)) (now (ex .entry)) (edgesIn u (u .edges))) r (now (text .exit)) ⌝ }
 {
     let n = u.edges;
     let mut at = start;
     let mut i: usize = 0;
     while i < n {
-        at = put_edge(text, at, template, u.edge(i));
+        at = put_edge(text, at, ed, ex, u.edge(i));
         i += 1;
     }
     at

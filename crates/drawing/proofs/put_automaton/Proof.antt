@@ -7,7 +7,7 @@ use Rattle.automaton.specs.Struct.{automatonOf, firstIn}
 use Rattle.append.specs.Appends.{Appends}
 use Rattle.append.proofs.Appended.{room-front, append-more, append-room}
 use Rattle.text.specs.Rows.{edgesText}
-use Rattle.drawing.specs.Drawing.{statesText, edgeLine, automatonFront, clusterEnd, automatonText}
+use Rattle.drawing.specs.Drawing.{statesText, edLine, exLine, automatonFront, clusterEnd, automatonText}
 use Rattle.drawing.proofs.put_automaton.Statement.{statement}
 use Rattle.drawing.proofs.put_automaton.Tie as tie
 
@@ -20,7 +20,7 @@ module _ (b : tie.Start) where
   two = front ++ statesText (b .args .u .states) (b .args .u .rejecting)
 
   abbrev three : List ℕ
-  three = two ++ edgesText edgeLine (firstIn (b .args .u) (b .args .u .edges))
+  three = two ++ edgesText edLine exLine (firstIn (b .args .u) (b .args .u .edges))
 
   abbrev Room : List ℕ → Type 0
   Room part = b .args .at + length part ≤ length (b .args .text .now)
@@ -49,10 +49,10 @@ module _ (c : tie.After-put-states) where
 
 module _ (c : tie.After-put-edges) where
   abbrev start₃ : tie.Start
-  start₃ = start₂ (c .before .before .before .before .before)
+  start₃ = start₂ (c .before .before .before .before .before .before)
 
   joined : Appends (start₃ .args .text .now) (start₃ .args .at) (three start₃) (c .put-edges .result) (c .put-edges .last .0)
-  joined = append-more (stated (c .before .before .before .before .before)) (c .put-edges .ensures)
+  joined = append-more (stated (c .before .before .before .before .before .before)) (c .put-edges .ensures)
 
 -- `let after_front = put_automaton_front(text, at, u.initial)`
 put-automaton-front-requires : tie.Need-put-automaton-front-requires
@@ -62,13 +62,17 @@ put-automaton-front-requires c κs = let b = c .before .before in room-front _ _
 put-states-requires : tie.Need-put-states-requires
 put-states-requires c κs = let f = c .before .before .before in append-room (f .put-automaton-front .ensures) _ (room-two (entry f))
 
--- `let after_edges = text::put_edges(text, after_states, b"        q# -> q# [label=\"?\"];\n", u)`
+-- `b"        q# -> q# [label=\"?\"];\n"`
 slice-aggregate-put-edges : tie.Need-slice-aggregate-put-edges
 slice-aggregate-put-edges c = search needs
 
--- `let after_edges = text::put_edges(text, after_states, b"        q# -> q# [label=\"?\"];\n", u)`
+-- `b"        q# -> q# [label=\"unless ?\"];\n"`
+slice-aggregate-put-edges-2 : tie.Need-slice-aggregate-put-edges-2
+slice-aggregate-put-edges-2 c = search needs
+
+-- `let after_edges = text::put_edges(..)`
 put-edges-requires : tie.Need-put-edges-requires
-put-edges-requires c κs = let s = c .before .before .before .before in (start₂ s .pre .0, append-room (stated s) _ (room-three (start₂ s)))
+put-edges-requires c κs = let s = c .before .before .before .before .before in (start₂ s .pre .0, append-room (stated s) _ (room-three (start₂ s)))
 
 -- `put_bytes(text, after_edges, b"    }\n")`
 slice-aggregate-put-bytes : tie.Need-slice-aggregate-put-bytes
@@ -94,6 +98,7 @@ put-automaton-spec =
     put-automaton-front-requires
     put-states-requires
     slice-aggregate-put-edges
+    slice-aggregate-put-edges-2
     put-edges-requires
     slice-aggregate-put-bytes
     put-bytes-requires

@@ -10,7 +10,7 @@ use Rattle.sheet.proofs.AnswersOfReading.{architecture-proper}
 use Rattle.append.specs.Appends.{Appends}
 use Rattle.append.proofs.Appended.{room-front, append-more, append-room}
 use Rattle.text.specs.Rows.{edgesText}
-use Rattle.listing.specs.Listing.{frontText, processesText, statesText, edgeLine, countsText, showText}
+use Rattle.listing.specs.Listing.{frontText, processesText, statesText, edLine, exLine, countsText, showText}
 use Rattle.listing.proofs.put_sheet.Statement.{statement}
 use Rattle.listing.proofs.put_sheet.Tie as tie
 
@@ -26,7 +26,7 @@ module _ (b : tie.Start) where
   three = let u = b .args .sheet .automaton in two ++ statesText (u .states) (u .initial .0) (u .rejecting)
 
   abbrev four : List ℕ
-  four = let u = b .args .sheet .automaton in three ++ edgesText edgeLine (firstIn u (u .edges))
+  four = let u = b .args .sheet .automaton in three ++ edgesText edLine exLine (firstIn u (u .edges))
 
   abbrev Room : List ℕ → Type 0
   Room part = 0 + length part ≤ length (b .args .text .now)
@@ -68,10 +68,10 @@ module _ (c : tie.After-put-states) where
 
 module _ (c : tie.After-put-edges) where
   abbrev start₄ : tie.Start
-  start₄ = start₃ (c .before .before .before .before .before)
+  start₄ = start₃ (c .before .before .before .before .before .before)
 
   joined : Appends (start₄ .args .text .now) 0 (four start₄) (c .put-edges .result) (c .put-edges .last .0)
-  joined = append-more (stated (c .before .before .before .before .before)) (c .put-edges .ensures)
+  joined = append-more (stated (c .before .before .before .before .before .before)) (c .put-edges .ensures)
 
 -- `let after_front = put_front(text, 0, a)`
 put-front-requires : tie.Need-put-front-requires
@@ -90,14 +90,18 @@ put-processes-requires c κs =
 put-states-requires : tie.Need-put-states-requires
 put-states-requires c κs = let p = c .before .before .before in append-room (listed p) _ (room-three (start₂ p))
 
--- `let after_edges = text::put_edges(text, after_states, b"edge # to # on @ off @\n", u)`
+-- `b"edge # to # on @ off @\n"`
 slice-aggregate-put-edges : tie.Need-slice-aggregate-put-edges
 slice-aggregate-put-edges c = search needs
 
--- `let after_edges = text::put_edges(text, after_states, b"edge # to # on @ off @\n", u)`
+-- `b"edge # to # unless on @ off @\n"`
+slice-aggregate-put-edges-2 : tie.Need-slice-aggregate-put-edges-2
+slice-aggregate-put-edges-2 c = search needs
+
+-- `let after_edges = text::put_edges(..)`
 put-edges-requires : tie.Need-put-edges-requires
 put-edges-requires c κs =
-    let s = c .before .before .before .before in
+    let s = c .before .before .before .before .before in
     (start₃ s .pre .0 .arrays .automaton, append-room (stated s) _ (room-four (start₃ s)))
 
 -- `put_counts(text, after_edges, a)`
@@ -124,6 +128,7 @@ put-sheet-spec =
     put-processes-requires
     put-states-requires
     slice-aggregate-put-edges
+    slice-aggregate-put-edges-2
     put-edges-requires
     put-counts-requires
     same-length

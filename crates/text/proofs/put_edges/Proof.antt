@@ -9,10 +9,10 @@ use Rattle.text.proofs.put_edges.Statement.{statement}
 use Rattle.text.proofs.put_edges.Tie as tie
 
 abbrev Inv-loop : tie.InvT-loop
-Inv-loop text₀ start template u n at₀ i₀ text at i = (i ≤ n) × Appending text₀ start (edgesText template (firstIn u (u .edges))) at text (edgesFrom template u i)
+Inv-loop text₀ start ed ex u n at₀ i₀ text at i = (i ≤ n) × Appending text₀ start (edgesText ed ex (firstIn u (u .edges))) at text (edgesFrom ed ex u i)
 
 abbrev μ-loop : tie.MeasureT-loop
-μ-loop text₀ start template u n at₀ i₀ text at i = n - i
+μ-loop text₀ start ed ex u n at₀ i₀ text at i = n - i
 
 -- `while i < n`
 loop-holds : tie.Need-loop-holds Inv-loop μ-loop
@@ -20,9 +20,9 @@ loop-holds c = (omega arith, appending-none _ _ _)
 
 -- the entry of the function
 abbrev entry : tie.At-loop Inv-loop μ-loop → tie.Start Inv-loop μ-loop
-entry c = c .before .before .before
+entry c = c .before .before .before .before
 
--- `at = put_edge(text, at, template, u.edge(i))`
+-- `at = put_edge(text, at, ed, ex, u.edge(i))`
 edge-requires : tie.Need-edge-requires Inv-loop μ-loop
 edge-requires c κs = (entry (c .before .before) .pre .0, c .before .loop-test .taken)
 
@@ -32,10 +32,10 @@ turn c = c .before .before
 
 -- edge i is due next
 next : (c : tie.After-edge Inv-loop μ-loop) → let l = turn c .before in let a = entry l .args in let i = l .loop .i in
-    Opens (edgesFrom (a .template .now) (a .u) i) (edgeText (a .template .now) (edgeOf (c .edge .result))) (edgesFrom (a .template .now) (a .u) (i + 1))
-next c = let l = turn c .before in edges-open (entry l .args .template .now) (entry l .args .u) (l .loop .i) _ (c .edge .ensures) (turn c .loop-test .taken)
+    Opens (edgesFrom (a .ed .now) (a .ex .now) (a .u) i) (edgeText (a .ed .now) (a .ex .now) (edgeOf (c .edge .result))) (edgesFrom (a .ed .now) (a .ex .now) (a .u) (i + 1))
+next c = let l = turn c .before in let a = entry l .args in edges-open (a .ed .now) (a .ex .now) (a .u) (l .loop .i) _ (c .edge .ensures) (turn c .loop-test .taken)
 
--- `at = put_edge(text, at, template, u.edge(i))`
+-- `at = put_edge(text, at, ed, ex, u.edge(i))`
 put-edge-requires : tie.Need-put-edge-requires Inv-loop μ-loop
 put-edge-requires c κs = let l = turn c .before in appending-room (l .loop .inv .1) (entry l .pre .1) (next c)
 
@@ -65,7 +65,8 @@ same-length c = appending-length (c .before .loop .inv .1) (entry (c .before) .p
 returns : tie.Need-returns Inv-loop μ-loop
 returns c =
     let l = c .before in
-    appending-all (rw (edges-none (entry l .args .template .now) (entry l .args .u) (l .loop .i) (omega (arith, c .loop-test .left, l .loop .inv .0))) at (l .loop .inv .1))
+    let a = entry l .args in
+    appending-all (rw (edges-none (a .ed .now) (a .ex .now) (a .u) (l .loop .i) (omega (arith, c .loop-test .left, l .loop .inv .0))) at (l .loop .inv .1))
 
 pub put-edges-spec : {M : Type 1} → statement M
 put-edges-spec =

@@ -8,7 +8,7 @@ use Rattle.automaton.proofs.Automaton.opened.Tie as tie
 -- `Automaton`
 returns : tie.Need-returns
 unfolding automatonOf edgesOf
-returns c = (refl, (record { few-edges = omega arith; from-long = refl; to-long = refl; on-long = refl; off-long = refl }, refl))
+returns c = (refl, (record { few-edges = omega arith; from-long = refl; to-long = refl; on-long = refl; off-long = refl; unless-long = refl }, refl))
 
 pub opened-spec : {M : Type 1} → statement M
 opened-spec = tie.close (tie.spec returns)

@@ -1,4 +1,4 @@
--- `automaton::Automaton::with_edge` meets its contract: four stores behind the entries that count leave those as they are.
+-- `automaton::Automaton::with_edge` meets its contract: five stores behind the entries that count leave those as they are.
 use mathlib.Core.Path.{refl}
 use native.Mathlib.Omega.{arith}
 use lib.ListN.{length-set}
@@ -25,6 +25,10 @@ element-write-self c = search needs
 element-write-self-2 : tie.Need-element-write-self-2
 element-write-self-2 c = search needs
 
+-- `self.unless[n] = edge.unless`
+element-write-self-3 : tie.Need-element-write-self-3
+element-write-self-3 c = search needs
+
 -- `self.edges = n + 1`
 add-self : tie.Need-add-self
 add-self c = search needs
@@ -38,7 +42,7 @@ returns c =
     let e = b .args .edge in
     let z = b .pre .0 in (
       rw
-          (edges-more (u .edges) (u .from) (u .to) (u .on) (u .off) (e .from) (e .to) (e .on) (e .off) (omega arith) (omega arith) (omega arith) (omega arith)),
+          (edges-more (u .edges) (u .from) (u .to) (u .on) (u .off) (u .unless) (e .from) (e .to) (e .on) (e .off) (e .unless) (omega arith) (omega arith) (omega arith) (omega arith) (omega arith)),
       (
         record {
           few-edges = omega arith;
@@ -46,6 +50,7 @@ returns c =
           to-long = simp length-set (z .to-long);
           on-long = simp length-set (z .on-long);
           off-long = simp length-set (z .off-long);
+          unless-long = simp length-set (z .unless-long);
         },
         refl,
       ),
@@ -59,5 +64,6 @@ with-edge-spec =
     element-set-from-to
     element-write-self
     element-write-self-2
+    element-write-self-3
     add-self
     returns)

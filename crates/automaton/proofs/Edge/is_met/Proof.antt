@@ -1,35 +1,27 @@
--- `automaton::Edge::is_met` meets its contract: where the label lacks a bit of `on` the edge is not met, and otherwise `off` decides.
-use mathlib.Core.Path.{_≡_, refl, sym}
-use mathlib.Core.Bool.{Bool, true, false, not}
-use Prim.Native.Nat.{ℕ}
-use lib.Bits.{bitAnd}
-use lib.Dec.{eqb}
-use borrow.Author.Tests.{ne-eqb, eq-eqb}
-use Rattle.model.specs.Mask.{within, share}
-use Rattle.model.specs.Sheet.{Edge}
+-- `automaton::Edge::is_met` meets its contract: whether the masks' test differs from the kind is that test, turned round where the edge says unless.
+use mathlib.Core.Path.{_≡_, refl, ap, _∙_}
+use mathlib.Core.Bool.{Bool, true, false, not, Bool·beq}
+use borrow.Author.Needs.{needs}
+use Rattle.model.specs.Mask.{if}
 use Rattle.model.specs.RunGraph.{meets}
 use Rattle.automaton.proofs.Edge.is_met.Statement.{statement}
 use Rattle.automaton.proofs.Edge.is_met.Tie as tie
 
-not-twice : (b : Bool) → not (not b) ≡ b
-not-twice true = refl
-not-twice false = refl
+differs : (t unless : Bool) → not (Bool·beq t unless) ≡ if unless (not t) t
+unfolding if
+differs true true = refl
+differs true false = refl
+differs false true = refl
+differs false false = refl
 
-lacks : (e : Edge) (l : ℕ) → ¬ (bitAnd (e .on) l ≡ e .on) → meets e l ≡ false
-unfolding meets within
-lacks e l n = rw (ne-eqb (bitAnd (e .on) l) (e .on) n)
+-- `self.matches(label) != self.unless`
+matches-requires : tie.Need-matches-requires
+matches-requires c κs = search needs
 
-off-decides : (e : Edge) (l : ℕ) → bitAnd (e .on) l ≡ e .on → meets e l ≡ eqb (bitAnd (e .off) l) 0
-unfolding meets within share
-off-decides e l h = rw (eq-eqb (bitAnd (e .on) l) (e .on) h) (not-twice (eqb (bitAnd (e .off) l) 0))
-
--- `return false`
+-- `self.matches(label) != self.unless`
 returns : tie.Need-returns
-returns c = sym (lacks _ _ (c .if1 .taken))
-
--- `self.off & label == 0`
-returns-2 : tie.Need-returns-2
-returns-2 c = sym (off-decides _ _ (c .before .if1 .left))
+unfolding meets
+returns c = let unless : Bool = c .before .before .args .self .unless in differs (c .before .matches .result) unless ∙ ap (λ (t : Bool). if unless (not t) t) (c .before .matches .ensures)
 
 pub is-met-spec : {M : Type 1} → statement M
-is-met-spec = tie.close (tie.spec returns returns-2)
+is-met-spec = tie.close (tie.spec matches-requires returns)

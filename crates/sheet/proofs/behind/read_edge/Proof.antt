@@ -4,8 +4,8 @@ use mathlib.Core.Bool.{false}
 use mathlib.Core.List.{List}
 use Prim.Native.Nat.{ℕ}
 use borrow.Author.Needs.{needs}
-use Rattle.model.specs.Sheet.{Automaton}
-use Rattle.model.specs.Reading.{proper, short}
+use Rattle.model.specs.Sheet.{Automaton, withEdge}
+use Rattle.model.specs.Reading.{proper, short, edFault, edgeAt}
 use Rattle.automaton.specs.Struct.{automatonOf}
 use Rattle.sheet.specs.Struct.{automatonAs}
 use Rattle.sheet.specs.Steps.{edgeFrom}
@@ -14,7 +14,7 @@ use Rattle.sheet.proofs.RefusalTests.{too-few, enough, reads-as}
 use Rattle.sheet.proofs.behind.read_edge.Statement.{statement}
 use Rattle.sheet.proofs.behind.read_edge.Tie as tie
 
--- ---- what comes in, and the position at which the whole ED is there
+-- ---- what comes in, and the position at which the whole record is there
 module _ (s : tie.Start) where
   abbrev bytes : List ℕ
   bytes = s .args .sheet .now
@@ -26,10 +26,14 @@ abbrev entry : tie.Else1 → tie.Start
 entry c = c .before .before
 
 abbrev reading : tie.After-ed-fault → tie.Else1
-reading c = c .before .before .before .before .before
+reading c = c .before .before
 
 whole : (c : tie.Else1) → short (bytes (entry c)) (at (entry c)) 6 ≡ false
 whole c = enough (bytes (entry c)) (at (entry c)) 6 (entry c .pre .0 .0) (c .if1 .left)
+
+-- the fault of the fields is that of the edge in the file
+fault : (c : tie.After-ed-fault) → let s = entry (reading c) in c .ed-fault .result ≡ edFault (s .args .variables) (s .args .so-far .states) (edgeAt (bytes s) (at s))
+fault c = let s = entry (reading c) in c .ed-fault .ensures ∙ ap (edFault (s .args .variables) (s .args .so-far .states)) (c .before .edge-at .ensures)
 
 -- ---- the needs
 -- `if sheet.len() - at < 6`
@@ -45,37 +49,9 @@ returns : tie.Need-returns
 unfolding edgeFrom
 returns c = let s = c .before .before .before in reads-as (c .refuse .ensures) (sym (stop _ _ (too-few (bytes s) (at s) 6 (c .before .if1 .taken))))
 
--- `from: AutomatonState(sheet[at + 2])`
-add-t7 : tie.Need-add-t7
-add-t7 c = search needs
-
--- `from: AutomatonState(sheet[at + 2])`
-shared-slice-read-t12 : tie.Need-shared-slice-read-t12
-shared-slice-read-t12 c = search needs
-
--- `to: AutomatonState(sheet[at + 3])`
-add-t8 : tie.Need-add-t8
-add-t8 c = search needs
-
--- `to: AutomatonState(sheet[at + 3])`
-shared-slice-read-t15 : tie.Need-shared-slice-read-t15
-shared-slice-read-t15 c = search needs
-
--- `on: sheet[at + 4]`
-add-t17 : tie.Need-add-t17
-add-t17 c = search needs
-
--- `on: sheet[at + 4]`
-shared-slice-read-t19 : tie.Need-shared-slice-read-t19
-shared-slice-read-t19 c = search needs
-
--- `off: sheet[at + 5]`
-add-t20 : tie.Need-add-t20
-add-t20 c = search needs
-
--- `off: sheet[at + 5]`
-shared-slice-read-t22 : tie.Need-shared-slice-read-t22
-shared-slice-read-t22 c = search needs
+-- `let edge = edge_at(sheet, at)`
+edge-at-requires : tie.Need-edge-at-requires
+edge-at-requires c κs = search needs
 
 -- `if ed_fault(variables, so_far.states, edge)`
 ed-fault-requires : tie.Need-ed-fault-requires
@@ -90,7 +66,7 @@ returns-2 : tie.Need-returns-2
 unfolding edgeFrom automatonOf
 returns-2 c =
     let e = c .before .before in
-    reads-as (c .refuse2 .ensures) (sym (go _ _ (whole (reading e)) ∙ stop _ _ (sym (e .ed-fault .ensures) ∙ c .before .if2 .taken)))
+    reads-as (c .refuse2 .ensures) (sym (go _ _ (whole (reading e)) ∙ stop _ _ (sym (fault e) ∙ c .before .if2 .taken)))
 
 -- `let automaton = so_far.with_edge(edge)`
 with-edge-requires : tie.Need-with-edge-requires
@@ -101,8 +77,9 @@ returns-3 : tie.Need-returns-3
 unfolding edgeFrom automatonOf automatonAs
 returns-3 c =
     let e = c .before .before in
-    let sound = go _ _ (whole (reading e)) ∙ go _ _ (sym (e .ed-fault .ensures) ∙ c .before .if2 .left) in
-    record { is = ap (λ (x : Automaton). proper x) (c .with-edge .ensures .0) ∙ sym sound; arrays = c .with-edge .ensures .1 .0 }
+    let more = c .with-edge .ensures .0 ∙ ap (withEdge (automatonOf (entry (reading e) .args .so-far))) (e .before .edge-at .ensures) in
+    let sound = go _ _ (whole (reading e)) ∙ go _ _ (sym (fault e) ∙ c .before .if2 .left) in
+    record { is = ap (λ (x : Automaton). proper x) more ∙ sym sound; arrays = c .with-edge .ensures .1 .0 }
 
 pub read-edge-spec : {M : Type 1} → statement M
 read-edge-spec =
@@ -111,14 +88,7 @@ read-edge-spec =
     sub-if1
     refuse-requires
     returns
-    add-t7
-    shared-slice-read-t12
-    add-t8
-    shared-slice-read-t15
-    add-t17
-    shared-slice-read-t19
-    add-t20
-    shared-slice-read-t22
+    edge-at-requires
     ed-fault-requires
     refuse-requires-2
     returns-2

@@ -1,5 +1,5 @@
 -- `sheet::behind::read_edges` meets its contract. The invariant: reading on from here, behind the edges that were read, is the reading of the whole.
--- At an ED, `here` says so of this step and what follows it.
+-- At an edge, `here` says so of this step and what follows it.
 use mathlib.Core.Path.{_≡_, sym, ap, _∙_}
 use mathlib.Core.List.{List}
 use Prim.Native.Nat.{ℕ, _+_, _-_, _<_, _≤_}
@@ -20,12 +20,12 @@ use Rattle.sheet.proofs.behind.read_edges.Statement.{statement}
 use Rattle.sheet.proofs.behind.read_edges.Tie as tie
 
 abbrev Inv-loop : tie.InvT-loop
-Inv-loop sheet start variables read₀ at₀ t9 read at = EdgesRead sheet start variables read₀ read at
+Inv-loop sheet start variables read₀ at₀ read at = EdgesRead sheet start variables read₀ read at
 
 abbrev μ-loop : tie.MeasureT-loop
-μ-loop sheet start variables read₀ at₀ t9 read at = 64 - read .edges
+μ-loop sheet start variables read₀ at₀ read at = 64 - read .edges
 
--- ---- the positions: the loop's head, and an ED
+-- ---- the positions: the loop's head, and an edge
 abbrev Head : Type 0
 Head = tie.At-loop Inv-loop μ-loop
 
@@ -48,24 +48,24 @@ module _ (l : Head) where
   abbrev all : Reading Automaton
   all = edgesFrom 64 variables (automatonOf (l .before .before .args .first)) bytes (l .before .before .args .start)
 
-  -- what is read behind an ED
+  -- what is read behind an edge
   abbrev rest : Automaton → Reading Automaton
   rest u = edgesFrom (64 - (count + 1)) variables u bytes (at + 6)
 
-abbrev head : tie.After-is-marked Inv-loop μ-loop → Head
-head c = c .before .before .before .before
+abbrev head : tie.After-is-edge Inv-loop μ-loop → Head
+head c = c .before .before .before
 
-below : (c : tie.After-is-marked Inv-loop μ-loop) → count (head c) < 64
-below c = c .before .before .if1 .taken
+below : (c : tie.After-is-edge Inv-loop μ-loop) → count (head c) < 64
+below c = c .before .if1 .taken
 
 abbrev Marked : Type 0
 Marked = tie.Else2 Inv-loop μ-loop
 
--- at an ED, this step and then the rest
+-- at an edge, this step and then the rest
 here : (c : Marked) → let l = head (c .before) in (edgeFrom (variables l) (automaton l) (bytes l) (at l) then rest l) ≡ all l
 here c =
     let l = head (c .before) in
-    let marked = not-false _ (passes (c .before .is-marked .ensures) (c .if2 .left)) in
+    let marked = not-false _ (passes (c .before .is-edge .ensures) (c .if2 .left)) in
     sym (edges-turn (automaton l) (bytes l) (at l) (variables l) 64 (count l) (below (c .before)) marked) ∙ l .loop .inv .rest
 
 -- ---- the needs
@@ -80,9 +80,9 @@ loop-holds c =
       rest = ap (λ (k : ℕ). edgesFrom k (s .args .variables) (automatonOf (s .args .first)) (s .args .sheet .now) (s .args .start)) none;
     }
 
--- `if !is_marked(sheet, at, &ED)`
-is-marked-requires : tie.Need-is-marked-requires Inv-loop μ-loop
-is-marked-requires c κs = c .before .before .before .loop .inv .inside
+-- `if !is_edge(sheet, at)`
+is-edge-requires : tie.Need-is-edge-requires Inv-loop μ-loop
+is-edge-requires c κs = c .before .before .loop .inv .inside
 
 -- `return read_end(sheet, at, read)`
 read-end-requires : tie.Need-read-end-requires Inv-loop μ-loop
@@ -92,7 +92,7 @@ read-end-requires c κs = let i = head (c .before) .loop .inv in (i .inside, i .
 returns : tie.Need-returns Inv-loop μ-loop
 returns c =
     let l = head (c .before .before) in
-    let none = not-true _ (fails (c .before .before .is-marked .ensures) (c .before .if2 .taken)) in
+    let none = not-true _ (fails (c .before .before .is-edge .ensures) (c .before .if2 .taken)) in
     reads-as (c .read-end .ensures) (sym (edges-none (automaton l) (bytes l) (at l) (variables l) (64 - count l) none) ∙ l .loop .inv .rest)
 
 -- `let next = read_edge(sheet, at, variables, read)`
@@ -118,7 +118,7 @@ returns-2 c =
 enum-told-2 : tie.Need-enum-told-2 Inv-loop μ-loop
 enum-told-2 c = search needs
 
--- ---- an ED without fault
+-- ---- an edge without fault
 abbrev Done : Type 0
 Done = tie.After-enum-told2 Inv-loop μ-loop
 
@@ -177,7 +177,7 @@ read-edges-spec =
     Inv-loop
     μ-loop
     loop-holds
-    is-marked-requires
+    is-edge-requires
     read-end-requires
     returns
     read-edge-requires
