@@ -27,6 +27,7 @@ pub mod rng;
 pub mod single_faults;
 
 // The library, and what a comparison with it needs.
+pub mod edge_kinds;
 pub mod ffi;
 pub mod guarded_buffer;
 pub mod inputs_read;

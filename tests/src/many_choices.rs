@@ -81,7 +81,7 @@ pub fn opening(bound: u8) -> Sheet {
 
 /// Two controllers that both count 0, 1, 2, 3 and round again, whatever the
 /// environment says. Each of their entries is read, so that the search settles
-/// them all, one within the other: 24 without an environment, 136 with four
+/// them all, one within the other: 16 without an environment, 136 with four
 /// variables.
 pub fn counters(environment: u8) -> Sheet {
     let mut edges = vec![Edge::new(4, 4, 0, 0)];

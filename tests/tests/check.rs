@@ -1,6 +1,7 @@
 //! The library's check of a sheet against the independent reading.
 
 use soclethyme_tests::bench_cases::{case_a, case_j, proper_cases, refused_cases, SHEET_A};
+use soclethyme_tests::edge_kinds::{assert_both_kinds, count_kinds};
 use soclethyme_tests::ffi;
 use soclethyme_tests::random_faults;
 use soclethyme_tests::random_sheets::{self, shapes, Shape};
@@ -23,7 +24,6 @@ const MIDDLE_SHAPE: Shape = Shape {
 };
 
 const REFUSED_AT_EX: &str = "refused at an EX";
-const BOTH_KINDS: &str = "edges of both kinds";
 
 /// Holds the library's answer against the independent one.
 fn compare(tally: &mut Tally, bytes: &[u8]) -> u32 {
@@ -72,7 +72,7 @@ fn count_properties(tally: &mut Tally, sheet: &Sheet) {
     tally.count("initial state", sheet.initial);
     tally.count("rejecting states", sheet.rejecting.count_ones());
     tally.count("edges", sheet.edges.len());
-    tally.count(BOTH_KINDS, sheet.has_both_kinds());
+    count_kinds(tally, sheet);
     tally.count("length", sheet.bytes().len());
     for process in &sheet.processes {
         tally.count("inputs", process.inputs.count_ones());
@@ -97,7 +97,7 @@ fn assert_properties(tally: &Tally) {
     tally.assert_often("initial state", 0..=15, often);
     tally.assert_often("rejecting states", 0..=16, often);
     tally.assert_often("edges", 0..=64, often);
-    tally.assert_often(BOTH_KINDS, [true], tally.total(BOTH_KINDS) / 3);
+    assert_both_kinds(tally);
     tally.assert_often("length", [18, LONGEST_SHEET], often);
     tally.assert_often("inputs", 0..=4, often);
     tally.assert_often("outputs", 0..=8, often);

@@ -9,6 +9,7 @@ use soclethyme_tests::bench_cases::{
 use soclethyme_tests::book::{layout, LONGEST_BOOK};
 use soclethyme_tests::choices::{self, choice_count, FoundChoice};
 use soclethyme_tests::detectors::{detector, input_masks};
+use soclethyme_tests::edge_kinds::{assert_both_kinds, count_kinds};
 use soclethyme_tests::fast_enumeration;
 use soclethyme_tests::few_choices;
 use soclethyme_tests::ffi::{self, NEGATIVE, POSITIVE};
@@ -117,8 +118,6 @@ impl SearchedSheet {
     }
 }
 
-const BOTH_KINDS: &str = "edges of both kinds";
-
 /// From so many choices on they are many, and one after so many is late.
 const MANY: u64 = 1_000;
 
@@ -132,7 +131,7 @@ fn count_properties(tally: &mut Tally, searched: &SearchedSheet) {
     tally.count("length of a book", book);
     tally.count("length of an annotation", annotation);
     tally.count("none", before.is_none());
-    tally.count(BOTH_KINDS, sheet.has_both_kinds());
+    count_kinds(tally, sheet);
     tally.count("none of many choices", before.is_none() && many_choices);
     tally.count("not all zeros", before > Some(0));
     tally.count("found late", before >= Some(MANY));
@@ -253,7 +252,7 @@ fn finds_agree_on_few_choices() {
     assert_eq!(tally.total("none"), SHEETS);
     tally.assert_often("none", [true], SHEETS / 4);
     tally.assert_often("none of many choices", [true], SHEETS / 12);
-    tally.assert_often(BOTH_KINDS, [true], SHEETS / 3);
+    assert_both_kinds(&tally);
     tally.assert_often("not all zeros", [true], SHEETS / 3);
     tally.assert_often("found late", [true], SHEETS / 20);
     tally.assert_often("found, the start rejecting", [true], SHEETS / 20);
@@ -306,7 +305,7 @@ fn finds_agree_on_high_variables() {
     tally.print("sheets with high variables searched");
 
     tally.assert_often("none", [true], SHEETS_WITH_HIGH / 20);
-    tally.assert_often(BOTH_KINDS, [true], SHEETS_WITH_HIGH / 3);
+    assert_both_kinds(&tally);
     tally.assert_often("not all zeros", [true], SHEETS_WITH_HIGH / 10);
     tally.assert_often(INPUT_COUNT, 0..=2, SHEETS_WITH_HIGH / 10);
     tally.assert_often(READS_HIGHEST, [true], SHEETS_WITH_HIGH / 10);

@@ -5,6 +5,7 @@ use soclethyme_tests::bench_cases::{
     case_d, case_e, case_f, case_g, case_h, ANNOTATION_A, BOOK_A, BOOK_D, BOOK_E, REJECTING_0,
     REJECTING_1, SHEET_A,
 };
+use soclethyme_tests::edge_kinds::{assert_both_kinds, count_kinds};
 use soclethyme_tests::ffi::{self, finding_number, NEGATIVE, POSITIVE};
 use soclethyme_tests::guarded_buffer::GuardedBuffer;
 use soclethyme_tests::inputs_read::{count_inputs, INPUT_COUNT, READS_ACROSS_GAP, READS_HIGHEST};
@@ -86,7 +87,6 @@ impl BookGraph {
     }
 }
 
-const BOTH_KINDS: &str = "edges of both kinds";
 const STARTS_REJECTING: &str = "annotated, the start rejecting";
 const BOUND_REACHED: &str = "bound reached, the start rejecting";
 
@@ -95,7 +95,7 @@ fn count_properties(tally: &mut Tally, graph: &BookGraph) {
     tally.count("rejecting loop", graph.annotation.is_none());
     tally.count("vertices", graph.vertices());
     let sheet = read_sheet(&graph.sheet).expect("a proper sheet");
-    tally.count(BOTH_KINDS, sheet.has_both_kinds());
+    count_kinds(tally, &sheet);
     if let Some(annotation) = &graph.annotation {
         let greatest = usize::from(greatest_number(annotation));
         tally.count("greatest number", greatest);
@@ -370,8 +370,11 @@ fn verdicts_agree_on_generated_books() {
     assert!(tally.total("annotate") >= 100_000);
     tally.assert_often("rejecting loop", [false, true], 1_000);
     assert_eq!(tally.greatest("vertices"), Some(MOST_VERTICES as u64));
-    assert_eq!(tally.greatest("greatest number"), Some(MOST_VERTICES as u64));
-    tally.assert_often(BOTH_KINDS, [true], tally.total(BOTH_KINDS) / 3);
+    assert_eq!(
+        tally.greatest("greatest number"),
+        Some(MOST_VERTICES as u64)
+    );
+    assert_both_kinds(&tally);
     let starts = tally.total(STARTS_REJECTING);
     tally.assert_often(STARTS_REJECTING, [false, true], starts / 5);
     tally.assert_often(BOUND_REACHED, [true], 40);

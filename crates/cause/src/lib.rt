@@ -46,7 +46,7 @@ fn say_cause(refusal: Refusal) {
             b"a variable has no owner, or there are more than 256 composed states",
         ),
         Refusal::BadAutomaton => say(b"a field of AU is outside the rules"),
-        Refusal::BadEdge => say(b"a field of an ED is outside the rules"),
+        Refusal::BadEdge => say(b"a field of an ED or EX is outside the rules"),
         Refusal::BookBufferTooShort => say(b"the book buffer is too short"),
         Refusal::AnnotationBufferTooShort => say(b"the annotation is too short"),
         Refusal::BadBook => say(b"the book has the wrong length, or a byte other than the one due"),

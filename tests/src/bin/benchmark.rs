@@ -85,8 +85,8 @@ fn counter_books() -> Vec<NamedBook> {
     let mut all = Vec::new();
     for (order, falling) in [("rising", false), ("falling", true)] {
         let named = [
-            ("13 rounds", JointCounter::longest(falling)),
-            ("12 rounds, closed", JointCounter::longest_closed(falling)),
+            ("16 rounds", JointCounter::longest(falling)),
+            ("16 rounds, closed", JointCounter::longest_closed(falling)),
             (
                 "16 rounds, 16 directions",
                 JointCounter::widest(falling, false),
