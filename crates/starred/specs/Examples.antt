@@ -205,9 +205,9 @@ pub record Pinned : Type 0 where
   pub seventeen-states : replyCode (checkOf (sheetE 1 17 0 [])) ≡ 6
   -- 7: masks that share one bit of two
   pub shared-bit : replyCode (checkOf (behindAU (ed 0 0 0x03 0x06))) ≡ 7
-  -- of an EX too, though it would always be met; one that is cut off is 1
+  -- of an EX too, though it would always be met; one that is cut off is 1, whatever its fields
   pub unless-shared-bit : replyCode (checkOf (behindAU (ex 0 0 0x03 0x06))) ≡ 7
-  pub unless-cut : replyCode (checkOf (behindAU (take 5 (ex 0 0 0 0)))) ≡ 1
+  pub unless-cut : replyCode (checkOf (behindAU (take 5 (ex 1 0 0 0)))) ≡ 1
   -- 8 even if the result would be `none`, and before 9
   pub book-buffer-short : outcomeCode (findOf caseF (buffer 7) [] .answer) ≡ 8
   -- 9 for fewer numbers than T times the automaton states, not than T
