@@ -29,7 +29,8 @@ module _ (f t : List AutomatonState) (p q : List ℕ) (k : List Bool) where
   edges-end = grown-end (edges-grow f t p q k)
 
 -- a store at n leaves the entries before it
-pub edges-more : (n : ℕ) (f t : List AutomatonState) (p q : List ℕ) (k : List Bool) (x y : AutomatonState) (z w : ℕ) (kind : Bool) → n < length f → n < length t → n < length p → n < length q → n < length k
+pub edges-more : (n : ℕ) (f t : List AutomatonState) (p q : List ℕ) (k : List Bool) (x y : AutomatonState) (z w : ℕ) (kind : Bool)
+    → n < length f → n < length t → n < length p → n < length q → n < length k
     → edgesOf (n + 1) (set f n x) (set t n y) (set p n z) (set q n w) (set k n kind) ≡ edgesOf n f t p q k ++ (record { from = x .0; to = y .0; on = z; off = w; unless = kind } ∷ [])
 unfolding edgesOf
 edges-more n f t p q k x y z w kind hf ht hp hq hk =

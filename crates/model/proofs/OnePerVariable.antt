@@ -44,17 +44,17 @@ unfolding one
 lowest true k m l h e = (0, omega arith, omega (arith, and-step m l, eqb-true, eqb-false), omega (arith, and-step m l, eqb-true, eqb-false))
 lowest false k m l h e = (0, omega arith, omega (arith, and-step m l, eqb-true, eqb-false), omega (arith, and-step m l, eqb-true, eqb-false))
 
-find : (c : Bool) (k m l : ℕ) → m < 2 ^ k → only c m l ≡ false → Differs c k m l
-find c zero m l few h = let z : m ≡ 0 = omega arith in absurd (eqb-false (bitAnd m l) (m * one c) h (rw z (and-zero-l l ∙ sym (zero-mul (one c)))))
-find c (suc k) m l few h =
+some-differs : (c : Bool) (k m l : ℕ) → m < 2 ^ k → only c m l ≡ false → Differs c k m l
+some-differs c zero m l few h = let z : m ≡ 0 = omega arith in absurd (eqb-false (bitAnd m l) (m * one c) h (rw z (and-zero-l l ∙ sym (zero-mul (one c)))))
+some-differs c (suc k) m l few h =
     ⊎-elim (λ e. lowest c k m l h e)
-    (λ e. let r = find c k (m / 2) (l / 2) (omega (arith, pow-suc 2 k)) e in (suc (r .0), omega arith, digit-suc m (r .0) ∙ r .2, digit-suc l (r .0) ∙ r .3))
+    (λ e. let r = some-differs c k (m / 2) (l / 2) (omega (arith, pow-suc 2 k)) e in (suc (r .0), omega arith, digit-suc m (r .0) ∙ r .2, digit-suc l (r .0) ∙ r .3))
     (bool-cases (only c (m / 2) (l / 2)))
 
-found : (c : Bool) (i m l : ℕ) → digit m i ≡ 1 → digit l i ≡ one (not c) → only c m l ≡ false
+differs-fails : (c : Bool) (i m l : ℕ) → digit m i ≡ 1 → digit l i ≡ one (not c) → only c m l ≡ false
 unfolding one
-found true i m l x y = ne-eqb (bitAnd m l) (m * 1) (λ e. omega (arith, digit-and m l i, ap (λ (n : ℕ). digit n i) (e ∙ mul-one m)))
-found false i m l x y = ne-eqb (bitAnd m l) (m * 0) (λ e. omega (arith, digit-and m l i, ap (λ (n : ℕ). digit n i) (e ∙ mul-zero m), zero-div (2 ^ i)))
+differs-fails true i m l x y = ne-eqb (bitAnd m l) (m * 1) (λ e. omega (arith, digit-and m l i, ap (λ (n : ℕ). digit n i) (e ∙ mul-one m)))
+differs-fails false i m l x y = ne-eqb (bitAnd m l) (m * 0) (λ e. omega (arith, digit-and m l i, ap (λ (n : ℕ). digit n i) (e ∙ mul-zero m), zero-div (2 ^ i)))
 
 -- a mask of one variable
 alone : (c : Bool) (i l : ℕ) → (only c (2 ^ i) l ≡ true) ↔ (digit l i ≡ one c)
@@ -102,7 +102,7 @@ module _ (e : Edge) (q l : ℕ) where
   unfolding bit
   there c few f =
       let h = and-is (eqb (e .from) q) _ .0 f in
-      let r = find c 8 (mask c e) l few (not-true _ (h .1)) in
+      let r = some-differs c 8 (mask c e) l few (not-true _ (h .1)) in
       let m = filter-complete (bit (mask c e)) (r .0) (from 8 0) (from-has 8 0 (r .0) (omega arith) (omega arith)) (eq-eqb _ _ (r .2)) in
       (single c (r .0), Memᴰ·map (single c) m, single-met c (r .0) ∙ and-is (eqb (e .from) q) _ .1 (h .0, alone (not c) (r .0) l .1 (r .3)))
 
@@ -111,7 +111,7 @@ module _ (e : Edge) (q l : ℕ) where
   back c d x m =
       let s = Memᴰ·of-map (single c) (filter (bit (mask c e)) (from 8 0)) m in
       let h = and-is (eqb (e .from) q) _ .0 (sym (single-met c (s .0)) ∙ ap (λ (z : Edge). met z q l) (s .2) ∙ x) in
-      let f = found c (s .0) (mask c e) l (eqb-true _ _ (filter-sound (bit (mask c e)) (s .0) (from 8 0) (s .1) .1)) (alone (not c) (s .0) l .0 (h .1)) in
+      let f = differs-fails c (s .0) (mask c e) l (eqb-true _ _ (filter-sound (bit (mask c e)) (s .0) (from 8 0) (s .1) .1)) (alone (not c) (s .0) l .0 (h .1)) in
       and-is (eqb (e .from) q) _ .1 (h .0, ap not f)
 
   -- the EX is met by one mask or by the other

@@ -56,12 +56,14 @@ end-short s x b e g l =
     let here : At b (length (recordsBytes s)) x = behind (recordsBytes s) x e in
     end-refused s x b e g SheetTooShort (inr (no-edge-mark here l)) (stop SheetTooShort _ (too-short here 2 l))
 
-edge-unfinished : (s : Sheet) (unless : Bool) (x b : List ℕ) → b ≡ recordsBytes s ++ (edgeMark unless ++ x) → ProperSheet s → length (s .automaton .edges) < 64 → length x < 4 → readSheet b ≡ refused SheetTooShort
+edge-unfinished : (s : Sheet) (unless : Bool) (x b : List ℕ) → b ≡ recordsBytes s ++ (edgeMark unless ++ x) → ProperSheet s → length (s .automaton .edges) < 64 → length x < 4
+    → readSheet b ≡ refused SheetTooShort
 edge-unfinished s unless x b e g few l =
     let here : At b (length (recordsBytes s)) (edgeMark unless ++ x) = behind (recordsBytes s) (edgeMark unless ++ x) e in
     let k : ℕ = 63 - length (s .automaton .edges) in
+    let short = too-short here 6 (omega (arith, mark-long unless, length-append (edgeMark unless) x)) in
     edges-refused s (edgeMark unless ++ x) b e g SheetTooShort (suc k) (omega arith)
-    (edge-short b (s .architecture .variables) (s .automaton .states) (length (recordsBytes s)) k (edge-marked-at unless x here) (too-short here 6 (omega (arith, mark-long unless, length-append (edgeMark unless) x))))
+    (edge-short b (s .architecture .variables) (s .automaton .states) (length (recordsBytes s)) k (edge-marked-at unless x here) short)
 
 pub unfinished-refused : (b : List ℕ) → Unfinished b → readSheet b ≡ refused SheetTooShort
 unfinished-refused b (in-first-mark x l) = front-refused x SheetTooShort (first-mark-short x l)

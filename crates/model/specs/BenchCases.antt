@@ -1,5 +1,5 @@
 -- 01, "Bench cases": their sheets, and the books, annotations and text that are named there; and a sheet of the greatest size.
-use mathlib.Core.Bool.{false}
+use mathlib.Core.Bool.{Bool, true, false}
 use mathlib.Core.List.{List, [], _∷_, _++_}
 use Prim.Native.Nat.{ℕ}
 use lib.ListN.{replicate}
@@ -65,11 +65,15 @@ bookE = 0x54 ∷ 0x42 ∷ 0 ∷ 0 ∷ 0 ∷ 0 ∷ 0x45 ∷ 0x4E ∷ []
 abbrev full : ℕ → ℕ → Process
 full inputs outputs = record { inputs = inputs; outputs = outputs; bound = 4 }
 
--- 8 variables, none of the environment; four processes that own two each and read four of the others; 16 automaton states, 64 edges
+-- an edge of this kind between the last state and the first, with all variables in its masks
+abbrev wide : Bool → Edge
+wide unless = record { from = 15; to = 0; on = 0x0F; off = 0xF0; unless = unless }
+
+-- 8 variables, none of the environment; four processes that own two each and read four of the others; 16 automaton states, 64 edges of both kinds
 unfoldable pub largest : Sheet
 largest = record {
   architecture = record { variables = 8; environment = 0; root = 0; processes = full 0x3C 0x03 ∷ full 0xF0 0x0C ∷ full 0xC3 0x30 ∷ full 0x0F 0xC0 ∷ [] };
-  automaton = record { states = 16; initial = 15; rejecting = 0xFFFF; edges = replicate 64 (record { from = 15; to = 0; on = 0x0F; off = 0xF0; unless = false }) };
+  automaton = record { states = 16; initial = 15; rejecting = 0xFFFF; edges = replicate 32 (wide false) ++ replicate 32 (wide true) };
 }
 
 -- its bytes
