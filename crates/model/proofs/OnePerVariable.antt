@@ -126,3 +126,12 @@ module _ (e : Edge) (q l : ℕ) where
         (λ x. let r = there false off x in (r .0, Memᴰ·append-right (singles true) (r .1), r .2)) (or-is (failing true) (failing false) .0 (sym ex ∙ h)),
     λ h. ex ∙ or-is (failing true) (failing false) .1 (⊎-map (back true (h .0) (h .2)) (back false (h .0) (h .2)) (List·Memᴰ·append-cases (singles true) (h .1))),
   )
+
+  -- each has e's end
+  pub same-end : (d : Edge) → List·Memᴰ d (onePerVariable e) → d .to ≡ e .to
+  unfolding onePerVariable
+  same-end d m = ⊎-elim (own true) (own false) (List·Memᴰ·append-cases (singles true) m)
+    where
+      own : (c : Bool) → List·Memᴰ d (singles c) → d .to ≡ e .to
+      own true i = sym (ap (λ (z : Edge). z .to) (Memᴰ·of-map (single true) (filter (bit (e .on)) (from 8 0)) i .2))
+      own false i = sym (ap (λ (z : Edge). z .to) (Memᴰ·of-map (single false) (filter (bit (e .off)) (from 8 0)) i .2))

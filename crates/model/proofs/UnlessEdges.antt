@@ -1,9 +1,7 @@
 -- An EX is met where the masks do not match: the rule, and what follows from it.
-use mathlib.Core.Path.{_≡_, refl, ap}
-use mathlib.Core.Bool.{Bool, true, false, not, _&&_, and-false}
-use mathlib.Core.List.{List, List·Memᴰ}
-use Prim.Native.Nat.{ℕ, _<_}
-use native.Mathlib.Omega.{arith}
+use mathlib.Core.Path.{_≡_, refl}
+use mathlib.Core.Bool.{false, not, and-false}
+use Prim.Native.Nat.{ℕ}
 use lib.Bits.{and-zero-l}
 use lib.Dec.{eqb}
 use borrow.Author.Tests.{eq-eqb, ne-eqb}
@@ -12,6 +10,7 @@ use Rattle.model.specs.Sheet.{Edge}
 use Rattle.model.specs.RunGraph.{matches, meets, met}
 use Rattle.model.specs.Demands.{asED, asEX, unless-edges}
 use Rattle.model.proofs.OnePerVariable.{in-place-of}
+use Rattle.model.proofs.WithoutUnless.{same-steps}
 
 turned : (e : Edge) (l : ℕ) → met (asEX e) (e .from) l ≡ not (met (asED e) (e .from) l)
 unfolding met meets if
@@ -27,4 +26,4 @@ unfolding met meets matches within share if
 no-masks e q l on off = rw (on, off, and-zero-l l) (and-false (eqb (e .from) q))
 
 pub all-unless : unless-edges
-all-unless = record { turned = turned; elsewhere = elsewhere; no-masks = no-masks; in-place-of = in-place-of }
+all-unless = record { turned = turned; elsewhere = elsewhere; no-masks = no-masks; in-place-of = in-place-of; same-steps = same-steps }

@@ -1,5 +1,4 @@
 -- `sheet::behind::edge_at` meets its contract: four bytes are the fields, and the mark tells the kind.
-use mathlib.Core.Path.{_≡_}
 use borrow.Author.Needs.{needs}
 use Rattle.sheet.proofs.behind.edge_at.Statement.{statement}
 use Rattle.sheet.proofs.behind.edge_at.Tie as tie
