@@ -1,6 +1,6 @@
 -- `automaton::Edge::matches` matches its contract: where the label lacks a bit of `on` the edge is not met, and otherwise `off` decides.
-use mathlib.Core.Path.{_≡_, refl, sym}
-use mathlib.Core.Bool.{Bool, true, false, not}
+use mathlib.Core.Path.{_≡_, sym}
+use mathlib.Core.Bool.{false, Bool·not-not}
 use Prim.Native.Nat.{ℕ}
 use lib.Bits.{bitAnd}
 use lib.Dec.{eqb}
@@ -11,17 +11,13 @@ use Rattle.model.specs.RunGraph.{matches}
 use Rattle.automaton.proofs.Edge.matches.Statement.{statement}
 use Rattle.automaton.proofs.Edge.matches.Tie as tie
 
-not-twice : (b : Bool) → not (not b) ≡ b
-not-twice true = refl
-not-twice false = refl
-
 lacks : (e : Edge) (l : ℕ) → ¬ (bitAnd (e .on) l ≡ e .on) → matches e l ≡ false
 unfolding matches within
 lacks e l n = rw (ne-eqb (bitAnd (e .on) l) (e .on) n)
 
 off-decides : (e : Edge) (l : ℕ) → bitAnd (e .on) l ≡ e .on → matches e l ≡ eqb (bitAnd (e .off) l) 0
 unfolding matches within share
-off-decides e l h = rw (eq-eqb (bitAnd (e .on) l) (e .on) h) (not-twice (eqb (bitAnd (e .off) l) 0))
+off-decides e l h = rw (eq-eqb (bitAnd (e .on) l) (e .on) h) (Bool·not-not (eqb (bitAnd (e .off) l) 0))
 
 -- `return false`
 returns : tie.Need-returns
