@@ -1,9 +1,12 @@
 //! The specification's bench cases: their sheets, and what some of them have as
 //! book, annotation and text.
 
-use crate::refusal::{Refusal, CUT_OFF, WRONG_COMPOSITION, WRONG_EDGE, WRONG_MARK, WRONG_PROCESS};
+use crate::refusal::{
+    Refusal, CUT_OFF, WRONG_COMPOSITION, WRONG_EDGE, WRONG_MARK, WRONG_PROCESS, WRONG_TIE,
+};
 use crate::run_graph::BLANK;
-use crate::sheet::{Edge, Process, Sheet};
+use crate::sheet::{Edge, Process, RecordKind, Sheet};
+use crate::ties::Tie;
 
 /// Case A as the specification lists it.
 pub const SHEET_A: [u8; 60] = [
@@ -39,6 +42,31 @@ pub const TEXT_D: &str = "tables 4\n0 0 00 1 1\n0 1 04 0 0\n1 0 08 1 1\n1 1 00 0
 
 /// The only book of case E, and of those made from it with the same bound.
 pub const BOOK_E: [u8; 8] = *b"TB\x00\x00\x00\x00EN";
+
+/// Case S as the specification lists it.
+pub const SHEET_S: [u8; 51] = [
+    0x41, 0x52, 0x04, 0x00, 0x00, 0x50, 0x52, 0x00, 0x05, 0x01, 0x50, 0x52, 0x00, 0x0A, 0x01, 0x53,
+    0x59, 0x01, 0x00, 0x41, 0x55, 0x02, 0x00, 0x02, 0x00, 0x45, 0x44, 0x00, 0x00, 0x00, 0x00, 0x45,
+    0x44, 0x00, 0x01, 0x00, 0x01, 0x45, 0x44, 0x00, 0x01, 0x00, 0x08, 0x45, 0x44, 0x01, 0x01, 0x00,
+    0x00, 0x45, 0x4E,
+];
+
+/// What is printed for S, and for S without its tie.
+pub const TEXT_S: &str = "tables 2\n0 0 05 0\n1 0 0A 0\ngreatest 0\n";
+pub const TEXT_S_UNTIED: &str = "tables 2\n0 0 01 0\n1 0 08 0\ngreatest 0\n";
+
+/// Case U as the specification lists it.
+pub const SHEET_U: [u8; 71] = [
+    0x41, 0x52, 0x04, 0x00, 0x00, 0x50, 0x52, 0x00, 0x01, 0x02, 0x50, 0x52, 0x00, 0x02, 0x02, 0x50,
+    0x52, 0x00, 0x04, 0x02, 0x50, 0x52, 0x00, 0x08, 0x02, 0x53, 0x59, 0x02, 0x03, 0x53, 0x59, 0x00,
+    0x01, 0x41, 0x55, 0x03, 0x00, 0x06, 0x00, 0x45, 0x44, 0x00, 0x00, 0x00, 0x00, 0x45, 0x44, 0x00,
+    0x01, 0x00, 0x01, 0x45, 0x44, 0x01, 0x01, 0x00, 0x01, 0x45, 0x44, 0x00, 0x02, 0x05, 0x00, 0x45,
+    0x44, 0x02, 0x02, 0x00, 0x00, 0x45, 0x4E,
+];
+
+/// What is printed for U.
+pub const TEXT_U: &str = "tables 8\n0 0 00 1\n0 1 01 0\n1 0 00 1\n1 1 02 0\n\
+    2 0 00 0\n2 1 00 0\n3 0 00 0\n3 1 00 0\ngreatest 1\n";
 
 /// A, field by field.
 pub fn case_a() -> Sheet {
@@ -165,6 +193,82 @@ pub fn case_j() -> Sheet {
     }
 }
 
+/// Two tied processes of one state, each with every second variable: 0 and 3 have
+/// to be on.
+pub fn case_s() -> Sheet {
+    Sheet {
+        variables: 4,
+        processes: vec![Process::new(0, 0x05, 1), Process::new(0, 0x0A, 1)],
+        ties: vec![[1, 0]],
+        states: 2,
+        rejecting: 0x0002,
+        edges: vec![
+            Edge::new(0, 0, 0x00, 0x00),
+            Edge::new(0, 1, 0x00, 0x01),
+            Edge::new(0, 1, 0x00, 0x08),
+            Edge::new(1, 1, 0x00, 0x00),
+        ],
+        ..Sheet::default()
+    }
+}
+
+/// S where 2 has to be off too, which is tied to 3.
+pub fn case_s_with_edge() -> Sheet {
+    let mut sheet = case_s();
+    sheet.edges.insert(3, Edge::new(0, 1, 0x04, 0x00));
+    sheet
+}
+
+/// The book of S with these output masks.
+pub fn book_s(first: u8, second: u8) -> [u8; 14] {
+    let mut book = *b"TB\x00\x00\x00\x00TB\x01\x00\x00\x00EN";
+    (book[4], book[10]) = (first, second);
+    book
+}
+
+/// Four processes of two states, tied in two pairs: 0 is on again and again, but
+/// never with 2.
+pub fn case_u() -> Sheet {
+    Sheet {
+        variables: 4,
+        processes: [1, 2, 4, 8].map(|output| Process::new(0, output, 2)).into(),
+        ties: vec![[2, 3], [0, 1]],
+        states: 3,
+        rejecting: 0x0006,
+        edges: vec![
+            Edge::new(0, 0, 0x00, 0x00),
+            Edge::new(0, 1, 0x00, 0x01),
+            Edge::new(1, 1, 0x00, 0x01),
+            Edge::new(0, 2, 0x05, 0x00),
+            Edge::new(2, 2, 0x00, 0x00),
+        ],
+        ..Sheet::default()
+    }
+}
+
+/// U with one tie more: between the pairs it makes one table of all.
+pub fn case_u_with_tie(tie: Tie) -> Sheet {
+    let mut sheet = case_u();
+    sheet.ties.push(tie);
+    sheet
+}
+
+/// U with three ties in a circle, of which each two would do.
+pub fn case_u_circular() -> Sheet {
+    Sheet {
+        ties: vec![[0, 1], [1, 2], [2, 0]],
+        ..case_u()
+    }
+}
+
+/// S with these ties.
+fn case_s_with_ties(ties: &[Tie]) -> Sheet {
+    Sheet {
+        ties: ties.to_vec(),
+        ..case_s()
+    }
+}
+
 /// The cases that are proper sheets, each with a name.
 pub fn proper_cases() -> Vec<(&'static str, Sheet)> {
     vec![
@@ -184,6 +288,17 @@ pub fn proper_cases() -> Vec<(&'static str, Sheet)> {
         ("case H, 1 rejecting", case_h(REJECTING_1)),
         ("case J", case_j()),
         ("64 edges", case_e_with_edges(64)),
+        ("case S", case_s()),
+        ("case S, no tie", case_s().without_ties()),
+        ("case S, one edge more", case_s_with_edge()),
+        ("case S, the tie repeated", case_s_with_ties(&[[1, 0]; 3])),
+        (
+            "case S, the tie reversed",
+            case_s_with_ties(&[[1, 0], [0, 1]]),
+        ),
+        ("case U", case_u()),
+        ("case U, chained", case_u_with_tie([3, 1])),
+        ("case U, circular", case_u_circular()),
     ]
 }
 
@@ -211,6 +326,64 @@ pub fn refused_cases() -> Vec<RefusedCase> {
         let sheet = case_e_with_edges(count);
         cases.push(("65 edges and more", sheet.bytes(), WRONG_MARK));
     }
+    cases.extend(misplaced_ties_of_s());
+    cases.extend(wrong_ties_of_s());
+    cases
+}
+
+/// S with an SY before its PR, with a PR behind its SY, with four SY, and with an
+/// SY behind AU; each of them cut off behind the mark too, and cut off within an
+/// SY that may stand there.
+fn misplaced_ties_of_s() -> Vec<RefusedCase> {
+    let [tie, process] = [RecordKind::Tie, RecordKind::Process].map(RecordKind::mark);
+    let four = case_s_with_ties(&[[1, 0]; 4]).bytes();
+    let mut cases = Vec::new();
+    let fronts: [(_, &[u8], _); 4] = [
+        ("case S, SY before PR", &SHEET_S[..5], tie),
+        ("case S, PR behind SY", &SHEET_S[..19], process),
+        ("case S, four SY", &four[..27], tie),
+        ("case S, SY behind AU", &SHEET_S[..25], tie),
+    ];
+    for (name, front, mark) in fronts {
+        for behind in [&[][..], &[0], &[1, 0], &SHEET_S[17..]] {
+            cases.push((name, [front, mark, behind].concat(), WRONG_MARK));
+        }
+    }
+    for behind in [&[][..], &[0], &[1], &[2], &[255]] {
+        let cut = [&SHEET_S[..17], behind].concat();
+        cases.push(("case S, SY cut off", cut, CUT_OFF));
+    }
+    cases
+}
+
+/// S with a tie that is wrong, alone and where no owner of a variable or T above
+/// 256 would be refused behind it.
+fn wrong_ties_of_s() -> Vec<RefusedCase> {
+    let name = "case S, wrong tie";
+    let mut cases = Vec::new();
+    for tie in [[0, 0], [1, 1], [0, 2], [2, 0], [2, 3], [255, 0], [0, 128]] {
+        for ties in [vec![tie], vec![[1, 0], tie], vec![[1, 0], [0, 1], tie]] {
+            let mut sheet = case_s_with_ties(&ties);
+            cases.push((name, sheet.bytes(), WRONG_TIE));
+            sheet.variables = 5;
+            cases.push((name, sheet.bytes(), WRONG_TIE));
+        }
+    }
+    for unlike in [(0, 0x05, 2), (2, 0x05, 1), (0, 0x01, 1), (0, 0x15, 1)] {
+        let mut sheet = case_s();
+        let (inputs, outputs, bound) = unlike;
+        sheet.processes[0] = Process::new(inputs, outputs, bound);
+        sheet.variables = if outputs == 0x15 { 5 } else { 4 };
+        cases.push((name, sheet.bytes(), WRONG_TIE));
+    }
+    for (tie, refusal) in [([1, 2], WRONG_TIE), ([1, 0], WRONG_COMPOSITION)] {
+        let mut sheet = case_j_and_third();
+        sheet.ties.push(tie);
+        cases.push(("case S, T above 256", sheet.bytes(), refusal));
+    }
+    let mut no_owner = case_s();
+    no_owner.variables = 5;
+    cases.push(("case S, no owner", no_owner.bytes(), WRONG_COMPOSITION));
     cases
 }
 

@@ -4,6 +4,7 @@ use std::ops::Range;
 
 use crate::refusal::{Refusal, NO_PROCESS, SHORT_BOOK_BUFFER, WRONG_ENTRY, WRONG_FORM};
 use crate::sheet::{read_sheet, Sheet};
+use crate::ties::keeps_ties;
 
 pub const TABLES_LENGTH: usize = 272;
 pub const LONGEST_BOOK: usize = 338;
@@ -83,8 +84,9 @@ pub fn book_of(layout: &[ByteRule], entries: &[u8]) -> Vec<u8> {
     book
 }
 
-/// The refusal of a book, its form settled before its entries.
-fn check_book(layout: &[ByteRule], book: &[u8]) -> Result<(), Refusal> {
+/// The refusal of a book, its form settled before its entries: each of them for
+/// itself, and those of tied processes.
+fn check_book(sheet: &Sheet, layout: &[ByteRule], book: &[u8]) -> Result<(), Refusal> {
     if book.len() != layout.len() {
         return Err(WRONG_FORM);
     }
@@ -94,7 +96,7 @@ fn check_book(layout: &[ByteRule], book: &[u8]) -> Result<(), Refusal> {
     };
     if refused(false) {
         Err(WRONG_FORM)
-    } else if refused(true) {
+    } else if refused(true) || !keeps_ties(sheet, &entries(layout, book)) {
         Err(WRONG_ENTRY)
     } else {
         Ok(())
@@ -103,9 +105,10 @@ fn check_book(layout: &[ByteRule], book: &[u8]) -> Result<(), Refusal> {
 
 /// Writes tables as a book at the front of the buffer.
 pub fn write(sheet: &[u8], tables: &Tables, buffer: &mut [u8]) -> Result<(), Refusal> {
-    let layout = layout(&read_sheet(sheet)?);
+    let sheet = read_sheet(sheet)?;
+    let layout = layout(&sheet);
     let book = book_of(&layout, tables);
-    check_book(&layout, &book)?;
+    check_book(&sheet, &layout, &book)?;
     let front = buffer.get_mut(..book.len()).ok_or(SHORT_BOOK_BUFFER)?;
     front.copy_from_slice(&book);
     Ok(())
@@ -113,8 +116,9 @@ pub fn write(sheet: &[u8], tables: &Tables, buffer: &mut [u8]) -> Result<(), Ref
 
 /// Reads a book into tables, with 0 behind the entries.
 pub fn read(sheet: &[u8], book: &[u8], tables: &mut Tables) -> Result<(), Refusal> {
-    let layout = layout(&read_sheet(sheet)?);
-    check_book(&layout, book)?;
+    let sheet = read_sheet(sheet)?;
+    let layout = layout(&sheet);
+    check_book(&sheet, &layout, book)?;
     let entries = entries(&layout, book);
     tables.fill(0);
     tables[..entries.len()].copy_from_slice(&entries);
@@ -127,7 +131,7 @@ pub fn part(sheet: &[u8], book: &[u8], process: usize) -> Result<Range<usize>, R
     if process >= sheet.processes.len() {
         return Err(NO_PROCESS);
     }
-    check_book(&layout(&sheet), book)?;
+    check_book(&sheet, &layout(&sheet), book)?;
     let start = (0..process)
         .map(|before| process_layout(&sheet, before).len())
         .sum();

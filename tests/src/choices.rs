@@ -1,11 +1,12 @@
 //! The choices of a sheet in the order of the specification, and the first that
 //! keeps it by plain enumeration: each one is made a book, and the independent
-//! run graph tests it.
+//! run graph tests it. Tables that break a tie are passed over one by one.
 
 use crate::book::{book_of, ByteRule};
 use crate::proper_sheet::ProperSheet;
 use crate::run_graph::RunGraph;
-use crate::sheet::Sheet;
+use crate::sheet::{Process, Sheet};
+use crate::ties::{keeps_ties, tied_groups};
 
 /// The first choice that keeps a sheet, with what find has to write for it.
 #[derive(Clone, Debug, PartialEq, Eq)]
@@ -38,29 +39,45 @@ pub fn entry_values(proper: &ProperSheet) -> Vec<Vec<u8>> {
     proper.entry_rules().map(admitted).collect()
 }
 
-/// How many choices the sheet has; all counts past the greatest are that one.
+/// How many choices the sheet has: tied processes have one table between them.
+/// All counts past the greatest are that one.
 pub fn choice_count(sheet: &Sheet) -> u64 {
-    let counts = sheet.processes.iter().map(|process| {
-        let places = process.row_places() as u32;
-        let next = u64::from(process.bound).saturating_pow(places);
-        let row = next.saturating_mul(1 << process.outputs.count_ones());
-        row.saturating_pow(u32::from(process.bound))
-    });
+    let groups = tied_groups(sheet).into_iter();
+    let counts = groups.map(|group| table_count(&sheet.processes[group[0]]));
     counts.fold(1, u64::saturating_mul)
 }
 
-/// The choices one after the other: the first entry that differs decides.
-pub struct Choices {
+/// How many it would have if no process were tied.
+pub fn untied_count(sheet: &Sheet) -> u64 {
+    let counts = sheet.processes.iter().map(table_count);
+    counts.fold(1, u64::saturating_mul)
+}
+
+fn table_count(process: &Process) -> u64 {
+    let places = process.row_places() as u32;
+    let next = u64::from(process.bound).saturating_pow(places);
+    let row = next.saturating_mul(1 << process.outputs.count_ones());
+    row.saturating_pow(u32::from(process.bound))
+}
+
+/// The choices one after the other: all tables that keep the ties.
+pub fn choices(proper: &ProperSheet) -> impl Iterator<Item = Vec<u8>> + '_ {
+    UntiedChoices::of(proper).filter(|entries| keeps_ties(&proper.sheet, entries))
+}
+
+/// All tables one after the other, tied or not: the first entry that differs
+/// decides.
+struct UntiedChoices {
     values: Vec<Vec<u8>>,
-    /// Which of its values each entry of the next choice has.
+    /// Which of its values each entry of the next tables has.
     ranks: Vec<usize>,
     ended: bool,
 }
 
-impl Choices {
-    pub fn of(proper: &ProperSheet) -> Self {
+impl UntiedChoices {
+    fn of(proper: &ProperSheet) -> Self {
         let values = entry_values(proper);
-        Choices {
+        UntiedChoices {
             ranks: vec![0; values.len()],
             values,
             ended: false,
@@ -80,7 +97,7 @@ impl Choices {
     }
 }
 
-impl Iterator for Choices {
+impl Iterator for UntiedChoices {
     type Item = Vec<u8>;
 
     fn next(&mut self) -> Option<Vec<u8>> {
@@ -96,6 +113,6 @@ impl Iterator for Choices {
 
 /// The first choice that keeps the sheet, none if no choice does.
 pub fn first_choice(proper: &ProperSheet) -> Option<FoundChoice> {
-    let mut numbered = (0..).zip(Choices::of(proper));
+    let mut numbered = (0..).zip(choices(proper));
     numbered.find_map(|(before, entries)| FoundChoice::if_kept(proper, &entries, before))
 }

@@ -1,12 +1,13 @@
 //! Random sheets with so few choices that all of them can be tried.
 
-use crate::choices::choice_count;
+use crate::choices::untied_count;
 use crate::random_sheets::{self, any_shape, shapes, Shape};
 use crate::rejecting_loops;
 use crate::rng::Rng;
 use crate::sheet::{mask_below, variables_of, Edge, Sheet, MOST_ENVIRONMENT, MOST_STATES};
+use crate::ties::{tied_groups, Tie};
 
-/// A proper sheet with at most that many choices.
+/// A proper sheet with at most that many choices, ties aside.
 pub fn sheet(rng: &mut Rng, most: u64) -> Sheet {
     let shape = shape(rng);
     sheet_of_shape(rng, shape, most)
@@ -20,6 +21,30 @@ pub fn with_high_variables(rng: &mut Rng, most: u64) -> Sheet {
     sheet_of_shape(rng, shape, most)
 }
 
+/// One with ties. They often chain, and tied processes mostly have outputs.
+pub fn with_ties(rng: &mut Rng, most: u64) -> Sheet {
+    loop {
+        let sheet = if rng.one_in(8) {
+            chained(rng, most)
+        } else {
+            let shape = any_shape(rng, |shape| shape.processes > 1);
+            sheet_of_shape(rng, shape, most)
+        };
+        let outputs = |tie: &Tie| sheet.processes[usize::from(tie[0])].outputs;
+        let mut ties = sheet.ties.iter();
+        if ties.any(|tie| outputs(tie) != 0 || rng.one_in(20)) {
+            return sheet;
+        }
+    }
+}
+
+fn chained(rng: &mut Rng, most: u64) -> Sheet {
+    let mut sheet = random_sheets::with_chained_ties(rng);
+    set_requirements(rng, &mut sheet);
+    shrink_to(rng, &mut sheet, most);
+    sheet
+}
+
 fn sheet_of_shape(rng: &mut Rng, shape: Shape, most: u64) -> Sheet {
     let mut sheet = if rng.one_in(5) {
         rejecting_loops::sheet_of_shape(rng, shape)
@@ -28,10 +53,14 @@ fn sheet_of_shape(rng: &mut Rng, shape: Shape, most: u64) -> Sheet {
         set_requirements(rng, &mut sheet);
         sheet
     };
-    while choice_count(&sheet) > most {
-        shrink(rng, &mut sheet);
-    }
+    shrink_to(rng, &mut sheet, most);
     sheet
+}
+
+fn shrink_to(rng: &mut Rng, sheet: &mut Sheet, most: u64) {
+    while untied_count(sheet) > most {
+        shrink(rng, sheet);
+    }
 }
 
 /// The fewer of two drawn, since many outputs leave few states for each.
@@ -46,15 +75,20 @@ fn shape(rng: &mut Rng) -> Shape {
     }
 }
 
-/// One state or one input less in some process; high inputs stay longer.
+/// One state or one input less in some process, and in those tied to it; high
+/// inputs stay longer.
 fn shrink(rng: &mut Rng, sheet: &mut Sheet) {
-    let index = rng.below(sheet.processes.len());
-    let process = &mut sheet.processes[index];
-    let inputs = variables_of(process.inputs);
-    if inputs.is_empty() || rng.one_in(3) {
-        process.bound = (process.bound - 1).max(1);
-    } else {
-        process.inputs ^= 1 << rng.pick(&inputs).min(rng.pick(&inputs));
+    let groups = tied_groups(sheet);
+    let group = rng.pick(&groups);
+    let fewer_states = sheet.processes[group[0]].inputs == 0 || rng.one_in(3);
+    for index in group {
+        let process = &mut sheet.processes[*index];
+        if fewer_states {
+            process.bound = (process.bound - 1).max(1);
+        } else {
+            let inputs = variables_of(process.inputs);
+            process.inputs ^= 1 << rng.pick(&inputs).min(rng.pick(&inputs));
+        }
     }
 }
 
@@ -79,6 +113,9 @@ fn set_requirements(rng: &mut Rng, sheet: &mut Sheet) {
             5 => forbid_after_cause(rng, sheet),
             _ => forbid_initially(rng, sheet),
         }
+    }
+    if rng.one_in(3) {
+        require_difference(rng, sheet);
     }
     if rng.one_in(4) {
         let edge = random_sheets::edge(rng, sheet);
@@ -111,6 +148,24 @@ fn require_response(rng: &mut Rng, sheet: &mut Sheet) {
     add_edge(sheet, WAITING, pending, cause);
     let lack = edge_masks(rng, sheet, 0, 1);
     add_edge(sheet, pending, pending, lack);
+}
+
+/// If processes with outputs are tied, one output comes to be on while its like
+/// is off.
+fn require_difference(rng: &mut Rng, sheet: &mut Sheet) {
+    let outputs = |number: u8| variables_of(sheet.processes[usize::from(number)].outputs);
+    let mut pairs = Vec::new();
+    for [one, other] in &sheet.ties {
+        pairs.extend(outputs(*one).into_iter().zip(outputs(*other)));
+    }
+    if !pairs.is_empty() {
+        let (on, off) = *rng.pick(&pairs);
+        let pending = add_state(sheet);
+        sheet.rejecting |= 1 << pending;
+        add_edge(sheet, WAITING, pending, ANY_LABEL);
+        let same = Edge::unless(pending, pending, 1 << on, 1 << off);
+        sheet.edges.push(same);
+    }
 }
 
 /// In this state some values are forbidden, those of outputs among them; or all

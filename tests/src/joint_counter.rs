@@ -109,12 +109,12 @@ impl JointCounter {
         Sheet {
             variables: self.environment + self.processes as u8,
             environment: self.environment,
-            root: 0,
             processes: processes.collect(),
             states: self.states,
             initial: self.first_round(),
             rejecting: ((1u32 << self.rounds) - 1) as u16,
             edges: self.edges(),
+            ..Sheet::default()
         }
     }
 

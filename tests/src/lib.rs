@@ -10,6 +10,7 @@ pub mod proper_sheet;
 pub mod refusal;
 pub mod run_graph;
 pub mod sheet;
+pub mod ties;
 pub mod transition_system;
 
 // The inputs.
@@ -22,6 +23,7 @@ pub mod random_annotations;
 pub mod random_books;
 pub mod random_faults;
 pub mod random_sheets;
+pub mod random_ties;
 pub mod rejecting_loops;
 pub mod rng;
 pub mod single_faults;
@@ -33,3 +35,4 @@ pub mod guarded_buffer;
 pub mod inputs_read;
 pub mod tally;
 pub mod text;
+pub mod tie_places;

@@ -79,6 +79,45 @@ pub fn opening(bound: u8) -> Sheet {
     }
 }
 
+/// Two controllers with one table and two clients each. The environment asks by
+/// variables 0 to 3, and 4 to 7 grant, two by each. Both have to open with all of
+/// their grants, then to pause with none, and then to have exactly one at any
+/// time: three states are not enough, but four.
+pub fn tied_openings(bound: u8) -> Sheet {
+    let (opening, pause, serving, violated) = (0, 1, 2, 7);
+    let mut edges = vec![
+        Edge::unless(opening, violated, 0xF0, 0),
+        Edge::new(opening, pause, 0, 0),
+        Edge::unless(pause, violated, 0, 0xF0),
+        Edge::new(pause, serving, 0, 0),
+        Edge::new(serving, serving, 0, 0),
+        Edge::new(violated, violated, 0, 0),
+    ];
+    for client in 0..4 {
+        let (asks, grants) = (1 << client, 16 << client);
+        let waiting = serving + 1 + client;
+        edges.push(Edge::new(serving, waiting, asks, 0));
+        edges.push(Edge::new(waiting, waiting, 0, grants));
+    }
+    for both in [0x30, 0xC0] {
+        edges.push(Edge::new(serving, violated, both, 0));
+        edges.push(Edge::new(serving, violated, 0, both));
+    }
+    Sheet {
+        variables: 8,
+        environment: 4,
+        processes: vec![
+            Process::new(0x03, 0x30, bound),
+            Process::new(0x0C, 0xC0, bound),
+        ],
+        ties: vec![[0, 1]],
+        states: 8,
+        rejecting: 0x00F8,
+        edges,
+        ..Sheet::default()
+    }
+}
+
 /// Two controllers that both count 0, 1, 2, 3 and round again, whatever the
 /// environment says. Each of their entries is read, so that the search settles
 /// them all, one within the other: 16 without an environment, 136 with four

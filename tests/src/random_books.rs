@@ -1,11 +1,13 @@
 //! Random books and tables for proper sheets, and bytes that make them wrong.
 
 use crate::book::{book_of, ByteRule, Tables, TABLES_LENGTH};
+use crate::choices::entry_values;
 use crate::proper_sheet::{ProperSheet, SheetAndBook};
 use crate::random_faults;
 use crate::random_sheets;
 use crate::rng::Rng;
 use crate::sheet::{Sheet, MOST_BOUND};
+use crate::ties::tied_entries;
 
 /// Which of the admitted values the entries of a choice get.
 #[derive(Clone, Copy)]
@@ -28,12 +30,49 @@ impl EntryValues {
     }
 }
 
-/// Entries within the rules; the least and the greatest come up often.
+/// A choice's entries; the least and the greatest come up often.
 pub fn entries(rng: &mut Rng, proper: &ProperSheet) -> Vec<u8> {
     let any = EntryValues::Any;
     let values = *rng.pick(&[EntryValues::Least, EntryValues::Greatest, any, any]);
     let rules = proper.entry_rules();
-    rules.map(|rule| values.draw(rng, rule)).collect()
+    let mut entries: Vec<u8> = rules.map(|rule| values.draw(rng, rule)).collect();
+    if !proper.sheet.ties.is_empty() {
+        share_tables(proper, &mut entries);
+    }
+    entries
+}
+
+/// Gives each process the table of the first that it is tied to.
+fn share_tables(proper: &ProperSheet, entries: &mut [u8]) {
+    let values = entry_values(proper);
+    for set in tied_entries(&proper.sheet) {
+        let mut ranked = values[set[0]].iter();
+        let rank = ranked.position(|value| *value == entries[set[0]]);
+        for at in set {
+            entries[at] = values[at][rank.expect("a value of the entry")];
+        }
+    }
+}
+
+/// A tied entry with another value that it may have by itself.
+pub struct LoosedEntry {
+    pub at: usize,
+    pub value: u8,
+}
+
+/// One for each tied entry of the choice that may have another value: each of
+/// them alone breaks a tie.
+pub fn loosed_entries(rng: &mut Rng, proper: &ProperSheet, entries: &[u8]) -> Vec<LoosedEntry> {
+    let values = entry_values(proper);
+    let tied = tied_entries(&proper.sheet).into_iter();
+    let tied = tied.filter(|set| set.len() > 1 && values[set[0]].len() > 1);
+    let loosed = tied.flatten().map(|at| {
+        let mut others = values[at].clone();
+        others.retain(|value| *value != entries[at]);
+        let value = *rng.pick(&others);
+        LoosedEntry { at, value }
+    });
+    loosed.collect()
 }
 
 /// A book of the sheet.

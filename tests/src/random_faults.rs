@@ -1,6 +1,7 @@
 //! Sheets with any number of faults, made from proper ones or from nothing.
 
 use crate::random_sheets;
+use crate::random_ties;
 use crate::rng::Rng;
 use crate::sheet::{RecordKind, Sheet};
 
@@ -8,16 +9,20 @@ use crate::sheet::{RecordKind, Sheet};
 const LIMITS: [u8; 16] = [0, 1, 2, 3, 4, 5, 7, 8, 9, 15, 16, 17, 64, 127, 128, 255];
 
 /// The marks of sheets and books.
-pub const MARKS: [&[u8; 2]; 7] = [b"AR", b"PR", b"AU", b"ED", b"EX", b"EN", b"TB"];
+pub const MARKS: [&[u8; 2]; 8] = [b"AR", b"PR", b"SY", b"AU", b"ED", b"EX", b"EN", b"TB"];
 
 /// A sheet changed in a few ways at once; the first fault then decides.
 pub fn changed_sheet(rng: &mut Rng, sheet: &Sheet) -> Vec<u8> {
+    let mut sheet = sheet.clone();
+    if rng.one_in(8) {
+        random_ties::spoil(rng, &mut sheet);
+    }
     let mut records = sheet.records();
     for _ in 0..rng.below(4) {
         change_field(rng, &mut records);
     }
     if rng.one_in(3) {
-        change_records(rng, sheet, &mut records);
+        change_records(rng, &sheet, &mut records);
     }
     let mut bytes = records.concat();
     match rng.below(8) {
@@ -147,13 +152,15 @@ pub fn random_bytes(rng: &mut Rng) -> Vec<u8> {
 /// Marks in any order with low fields, thus sometimes in range.
 fn random_records(rng: &mut Rng) -> Vec<u8> {
     let kinds = RecordKind::IN_ORDER;
+    // With one process no tie fits.
+    let mut due = kinds.to_vec();
+    due.retain(|kind| *kind != RecordKind::Tie);
     let mut bytes = Vec::new();
     for rank in 0..rng.below(8) {
-        let due = kinds[rank.min(kinds.len() - 1)];
         let kind = if rng.one_in(4) {
             *rng.pick(&kinds)
         } else {
-            due
+            due[rank.min(due.len() - 1)]
         };
         bytes.extend(kind.mark());
         bytes.extend((0..kind.field_count()).map(|_| rng.below(6) as u8));

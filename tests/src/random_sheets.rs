@@ -1,10 +1,11 @@
 //! Random proper sheets of every shape.
 
+use crate::random_ties;
 use crate::rng::Rng;
 use crate::sheet::{
     highest_of, lowest_of, mask_below, mask_of, variables_of, Edge, Process, Sheet, MOST_BOUND,
     MOST_COMPOSED, MOST_EDGES, MOST_ENVIRONMENT, MOST_INPUTS, MOST_PROCESSES, MOST_STATES,
-    MOST_VARIABLES,
+    MOST_TIES, MOST_VARIABLES,
 };
 
 /// The counts that a sheet's architecture begins with.
@@ -70,17 +71,41 @@ pub fn with_few_edges(rng: &mut Rng, shape: Shape) -> Sheet {
     sheet
 }
 
-/// A proper sheet with all records that a sheet can have: 417 bytes.
+/// A proper sheet with ties, of so many processes at least.
+pub fn with_ties(rng: &mut Rng, processes: usize) -> Sheet {
+    loop {
+        let shape = any_shape(rng, |shape| shape.processes >= processes);
+        let sheet = proper_of_shape(rng, shape);
+        if !sheet.ties.is_empty() {
+            return sheet;
+        }
+    }
+}
+
+/// A proper sheet of three or four processes that are all alike, with as many
+/// ties as there can be, so that often all of them share a table.
+pub fn with_chained_ties(rng: &mut Rng) -> Sheet {
+    loop {
+        let shape = any_shape(rng, |shape| shape.processes >= 3);
+        if let Some(alike) = random_ties::one_group(rng, shape) {
+            let mut sheet = with_processes(rng, shape, alike);
+            random_ties::add_ties(rng, &mut sheet, MOST_TIES);
+            return sheet;
+        }
+    }
+}
+
+/// A proper sheet with all records that a sheet can have: 429 bytes.
 pub fn with_all_records(rng: &mut Rng) -> Sheet {
-    let shape = any_shape(rng, |shape| shape.processes == MOST_PROCESSES);
-    let mut sheet = proper_of_shape(rng, shape);
+    let mut sheet = with_ties(rng, MOST_PROCESSES);
+    random_ties::add_ties(rng, &mut sheet, MOST_TIES);
     sheet.edges.clear();
     add_edges(rng, &mut sheet, MOST_EDGES);
     sheet
 }
 
 /// A proper sheet whose book is the longest: four inputs and four states in
-/// each of four processes.
+/// each of four processes, so that any of them can be tied.
 pub fn with_longest_book(rng: &mut Rng) -> Sheet {
     let mut sheet = Sheet {
         variables: MOST_VARIABLES as u8,
@@ -96,20 +121,29 @@ pub fn with_longest_book(rng: &mut Rng) -> Sheet {
         let bound = MOST_BOUND as u8;
         sheet.processes.push(Process::new(inputs, outputs, bound));
     }
+    let ties = rng.within(0, MOST_TIES);
+    random_ties::add_ties(rng, &mut sheet, ties);
     add_automaton(rng, &mut sheet);
     sheet
 }
 
 pub fn proper_of_shape(rng: &mut Rng, shape: Shape) -> Sheet {
+    let processes = processes(rng, shape);
+    with_processes(rng, shape, processes)
+}
+
+fn with_processes(rng: &mut Rng, shape: Shape, processes: Vec<Process>) -> Sheet {
     let variables = shape.variables as u8;
     let environment = shape.environment as u8;
     let mut sheet = Sheet {
         variables,
         environment,
         root: submask(rng, mask_below(environment)),
-        processes: processes(rng, shape),
+        processes,
         ..Sheet::default()
     };
+    let ties = rng.within(0, MOST_TIES);
+    random_ties::add_ties(rng, &mut sheet, ties);
     add_automaton(rng, &mut sheet);
     let count = edge_count(rng);
     add_edges(rng, &mut sheet, count);
@@ -125,7 +159,13 @@ fn submask(rng: &mut Rng, mask: u8) -> u8 {
     }
 }
 
+/// Some of them alike, or all drawn one by one.
 fn processes(rng: &mut Rng, shape: Shape) -> Vec<Process> {
+    if rng.one_in(2) {
+        if let Some(alike) = random_ties::alike_processes(rng, shape) {
+            return alike;
+        }
+    }
     let outputs = outputs(rng, shape);
     let bounds = bounds(rng, shape);
     let all = mask_below(shape.variables as u8);
@@ -155,7 +195,7 @@ fn outputs(rng: &mut Rng, shape: Shape) -> Vec<u8> {
 
 /// At most four inputs among those allowed. None and four come up often, and so
 /// do high variables and masks with gaps.
-fn inputs(rng: &mut Rng, allowed: u8) -> u8 {
+pub fn inputs(rng: &mut Rng, allowed: u8) -> u8 {
     let mut free = variables_of(allowed);
     let most = free.len().min(MOST_INPUTS as usize);
     let count = match rng.below(8) {

@@ -15,6 +15,7 @@ pub const SHORT_ANNOTATION: Refusal = 9;
 pub const WRONG_FORM: Refusal = 10;
 pub const WRONG_ENTRY: Refusal = 11;
 pub const NO_PROCESS: Refusal = 12;
+pub const WRONG_TIE: Refusal = 15;
 
 /// Those of a sheet.
-pub const SHEET_REFUSALS: [Refusal; 7] = [1, 2, 3, 4, 5, 6, 7];
+pub const SHEET_REFUSALS: [Refusal; 8] = [1, 2, 3, 4, 5, 6, 7, WRONG_TIE];

@@ -62,6 +62,8 @@ pub fn largest(rng: &mut Rng) -> Sheet {
         room /= process.bound as usize;
     }
     assert_eq!(sheet.composed(), MOST_COMPOSED);
+    let bounded = sheet.without_ties();
+    sheet.ties.retain(|tie| bounded.tie_fits(*tie));
     sheet.states = MOST_STATES as u8;
     sheet.edges.clear();
     random_sheets::add_edges(rng, &mut sheet, MOST_EDGES);

@@ -2,25 +2,28 @@
 
 use crate::refusal::{
     Refusal, CUT_OFF, WRONG_ARCHITECTURE, WRONG_AUTOMATON, WRONG_COMPOSITION, WRONG_EDGE,
-    WRONG_MARK, WRONG_PROCESS,
+    WRONG_MARK, WRONG_PROCESS, WRONG_TIE,
 };
+use crate::ties::{tie_faults, Tie};
 
 pub const MOST_VARIABLES: usize = 8;
 pub const MOST_ENVIRONMENT: usize = 4;
 pub const MOST_PROCESSES: usize = 4;
+pub const MOST_TIES: usize = 3;
 pub const MOST_INPUTS: u32 = 4;
 pub const MOST_BOUND: usize = 4;
 pub const MOST_COMPOSED: usize = 256;
 pub const MOST_STATES: usize = 16;
 pub const MOST_VERTICES: usize = MOST_COMPOSED * MOST_STATES;
 pub const MOST_EDGES: usize = 64;
-pub const LONGEST_SHEET: usize = 417;
+pub const LONGEST_SHEET: usize = 429;
 
 /// The kinds of records in a sheet.
 #[derive(Clone, Copy, Debug, PartialEq, Eq)]
 pub enum RecordKind {
     Architecture,
     Process,
+    Tie,
     Automaton,
     Edge,
     EdgeUnless,
@@ -28,9 +31,10 @@ pub enum RecordKind {
 }
 
 impl RecordKind {
-    pub const IN_ORDER: [RecordKind; 6] = [
+    pub const IN_ORDER: [RecordKind; 7] = [
         RecordKind::Architecture,
         RecordKind::Process,
+        RecordKind::Tie,
         RecordKind::Automaton,
         RecordKind::Edge,
         RecordKind::EdgeUnless,
@@ -38,9 +42,10 @@ impl RecordKind {
     ];
 
     /// All but the last.
-    pub const WITH_FIELDS: [RecordKind; 5] = [
+    pub const WITH_FIELDS: [RecordKind; 6] = [
         RecordKind::Architecture,
         RecordKind::Process,
+        RecordKind::Tie,
         RecordKind::Automaton,
         RecordKind::Edge,
         RecordKind::EdgeUnless,
@@ -53,6 +58,7 @@ impl RecordKind {
         match self {
             RecordKind::Architecture => b"AR",
             RecordKind::Process => b"PR",
+            RecordKind::Tie => b"SY",
             RecordKind::Automaton => b"AU",
             RecordKind::Edge => b"ED",
             RecordKind::EdgeUnless => b"EX",
@@ -64,6 +70,7 @@ impl RecordKind {
     pub fn field_count(self) -> usize {
         match self {
             RecordKind::Architecture | RecordKind::Process => 3,
+            RecordKind::Tie => 2,
             RecordKind::Automaton | RecordKind::Edge | RecordKind::EdgeUnless => 4,
             RecordKind::End => 0,
         }
@@ -93,6 +100,11 @@ impl Process {
     /// How many next states each of its rows has.
     pub fn row_places(&self) -> usize {
         1 << self.inputs.count_ones()
+    }
+
+    /// How many entries its table has.
+    pub fn table_length(&self) -> usize {
+        self.bound as usize * (1 + self.row_places())
     }
 }
 
@@ -160,6 +172,7 @@ pub struct Sheet {
     pub environment: u8,
     pub root: u8,
     pub processes: Vec<Process>,
+    pub ties: Vec<Tie>,
     pub states: u8,
     pub initial: u8,
     pub rejecting: u16,
@@ -181,6 +194,19 @@ pub fn variables_of(mask: u8) -> Vec<u8> {
 /// The mask of these variables.
 pub fn mask_of(variables: &[u8]) -> u8 {
     variables.iter().fold(0, |mask, bit| mask | 1 << bit)
+}
+
+/// The values of a mask's variables side by side, the lowest variable lowest.
+pub fn packed(mask: u8, values: u8) -> u8 {
+    let mut packed = 0;
+    let mut width = 0;
+    for variable in 0..8 {
+        if mask >> variable & 1 == 1 {
+            packed |= (values >> variable & 1) << width;
+            width += 1;
+        }
+    }
+    packed
 }
 
 /// The lowest variable of a mask alone, none if it has none.
@@ -220,6 +246,17 @@ impl Sheet {
         self.processes.iter().fold(0, |mask, p| mask | p.outputs)
     }
 
+    /// Whether each variable has an owner, and T is within its limit.
+    pub fn composition_fits(&self) -> bool {
+        let known = mask_below(self.environment) | self.owned();
+        known == mask_below(self.variables) && self.composed() <= MOST_COMPOSED
+    }
+
+    /// Whether the two can share a table.
+    pub fn tie_fits(&self, tie: Tie) -> bool {
+        tie_faults(&self.processes, tie).is_empty()
+    }
+
     /// The sheet's records in file order, each with its mark.
     pub fn records(&self) -> Vec<Vec<u8>> {
         let [low, high] = self.rejecting.to_le_bytes();
@@ -229,6 +266,7 @@ impl Sheet {
 
         let mut records = vec![record(RecordKind::Architecture, &architecture)];
         records.extend(processes.map(|fields| record(RecordKind::Process, &fields)));
+        records.extend(self.ties.iter().map(|tie| record(RecordKind::Tie, tie)));
         records.push(record(RecordKind::Automaton, &automaton));
         records.extend(self.edges.iter().map(Edge::record));
         records.push(record(RecordKind::End, &[]));
@@ -237,6 +275,14 @@ impl Sheet {
 
     pub fn bytes(&self) -> Vec<u8> {
         self.records().concat()
+    }
+
+    /// The same sheet, each process with a table of its own.
+    pub fn without_ties(&self) -> Sheet {
+        Sheet {
+            ties: Vec::new(),
+            ..self.clone()
+        }
     }
 
     /// Whether it has edges of both kinds.
@@ -262,36 +308,51 @@ pub fn record(kind: RecordKind, fields: &[u8]) -> Vec<u8> {
 
 /// The sheet in the file, or the refusal of its first fault.
 pub fn read_sheet(bytes: &[u8]) -> Result<Sheet, Refusal> {
-    read_records(bytes, &mut [0; 2])
-}
-
-/// The same, with the last whole mark that was looked at: that of the first
-/// faulty record, unless the fault is in its mark or behind the end.
-pub fn read_with_mark(bytes: &[u8]) -> (Result<Sheet, Refusal>, [u8; 2]) {
-    let mut mark = [0; 2];
-    let sheet = read_records(bytes, &mut mark);
-    (sheet, mark)
-}
-
-fn read_records(bytes: &[u8], mark: &mut [u8; 2]) -> Result<Sheet, Refusal> {
-    let mut rest = bytes;
-    let mut sheet = Sheet::default();
-    let mut last = None;
-    while last != Some(RecordKind::End) {
-        *mark = [0; 2];
-        mark.copy_from_slice(take(&mut rest, 2)?);
-        let kind = permitted(last, &sheet)
-            .iter()
-            .find(|kind| kind.mark() == mark)
-            .ok_or(WRONG_MARK)?;
-        let fields = take(&mut rest, kind.field_count())?;
-        add_record(&mut sheet, *kind, fields)?;
-        last = Some(*kind);
+    let reading = Reading::of(bytes);
+    match reading.refusal {
+        None => Ok(reading.sheet),
+        Some(refusal) => Err(refusal),
     }
-    if rest.is_empty() {
-        Ok(sheet)
-    } else {
-        Err(WRONG_MARK)
+}
+
+/// How far a file was read: to its end, or to its first fault.
+#[derive(Default)]
+pub struct Reading<'a> {
+    /// What the records before that gave, and the last of them.
+    pub sheet: Sheet,
+    pub last: Option<RecordKind>,
+    /// The mark behind them, empty if there is no whole one, and the bytes
+    /// behind it.
+    pub mark: &'a [u8],
+    pub rest: &'a [u8],
+    pub refusal: Option<Refusal>,
+}
+
+impl<'a> Reading<'a> {
+    pub fn of(bytes: &'a [u8]) -> Self {
+        let mut reading = Reading {
+            rest: bytes,
+            ..Reading::default()
+        };
+        reading.refusal = reading.read_records().err();
+        reading
+    }
+
+    fn read_records(&mut self) -> Result<(), Refusal> {
+        while self.last != Some(RecordKind::End) {
+            self.mark = &[];
+            self.mark = take(&mut self.rest, 2)?;
+            let kind = permitted(self.last, &self.sheet)
+                .iter()
+                .find(|kind| kind.mark() == self.mark)
+                .ok_or(WRONG_MARK)?;
+            let mut behind = self.rest;
+            let fields = take(&mut behind, kind.field_count())?;
+            add_record(&mut self.sheet, *kind, fields)?;
+            self.rest = behind;
+            self.last = Some(*kind);
+        }
+        require(self.rest.is_empty(), WRONG_MARK)
     }
 }
 
@@ -307,12 +368,14 @@ fn take<'a>(rest: &mut &'a [u8], count: usize) -> Result<&'a [u8], Refusal> {
 
 /// The records that may follow the last one.
 fn permitted(last: Option<RecordKind>, sheet: &Sheet) -> &'static [RecordKind] {
-    use RecordKind::{Architecture, Automaton, Edge, EdgeUnless, End, Process};
+    use RecordKind::{Architecture, Automaton, Edge, EdgeUnless, End, Process, Tie};
     match last {
         None => &[Architecture],
         Some(Architecture) => &[Process],
-        Some(Process) if sheet.processes.len() == MOST_PROCESSES => &[Automaton],
-        Some(Process) => &[Process, Automaton],
+        Some(Process) if sheet.processes.len() == MOST_PROCESSES => &[Tie, Automaton],
+        Some(Process) => &[Process, Tie, Automaton],
+        Some(Tie) if sheet.ties.len() == MOST_TIES => &[Automaton],
+        Some(Tie) => &[Tie, Automaton],
         Some(Automaton | Edge | EdgeUnless) if sheet.edges.len() == MOST_EDGES => &[End],
         Some(Automaton | Edge | EdgeUnless) => &[Edge, EdgeUnless, End],
         Some(End) => &[],
@@ -323,6 +386,7 @@ fn add_record(sheet: &mut Sheet, kind: RecordKind, fields: &[u8]) -> Result<(), 
     match kind {
         RecordKind::Architecture => add_architecture(sheet, fields),
         RecordKind::Process => add_process(sheet, fields),
+        RecordKind::Tie => add_tie(sheet, fields),
         RecordKind::Automaton => add_automaton(sheet, fields),
         RecordKind::Edge => add_edge(sheet, fields, false),
         RecordKind::EdgeUnless => add_edge(sheet, fields, true),
@@ -368,10 +432,15 @@ fn add_process(sheet: &mut Sheet, fields: &[u8]) -> Result<(), Refusal> {
     Ok(())
 }
 
+fn add_tie(sheet: &mut Sheet, fields: &[u8]) -> Result<(), Refusal> {
+    let tie = [fields[0], fields[1]];
+    require(sheet.tie_fits(tie), WRONG_TIE)?;
+    sheet.ties.push(tie);
+    Ok(())
+}
+
 fn add_automaton(sheet: &mut Sheet, fields: &[u8]) -> Result<(), Refusal> {
-    let known = mask_below(sheet.environment) | sheet.owned();
-    require(known == mask_below(sheet.variables), WRONG_COMPOSITION)?;
-    require(sheet.composed() <= MOST_COMPOSED, WRONG_COMPOSITION)?;
+    require(sheet.composition_fits(), WRONG_COMPOSITION)?;
 
     let (states, initial) = (fields[0], fields[1]);
     let rejecting = u16::from_le_bytes([fields[2], fields[3]]);

@@ -3,12 +3,13 @@
 
 use crate::refusal::{
     Refusal, CUT_OFF, WRONG_ARCHITECTURE, WRONG_AUTOMATON, WRONG_COMPOSITION, WRONG_EDGE,
-    WRONG_MARK, WRONG_PROCESS,
+    WRONG_MARK, WRONG_PROCESS, WRONG_TIE,
 };
 use crate::sheet::{
     mask_below, record, variables_of, RecordKind, Sheet, MOST_BOUND, MOST_COMPOSED, MOST_EDGES,
-    MOST_ENVIRONMENT, MOST_INPUTS, MOST_PROCESSES,
+    MOST_ENVIRONMENT, MOST_INPUTS, MOST_PROCESSES, MOST_TIES,
 };
+use crate::ties::Tie;
 
 /// A changed copy of a proper sheet, and the answer that it must get.
 pub struct ChangedSheet {
@@ -104,13 +105,21 @@ fn add_input_faults(copies: &mut ChangedCopies, index: usize) {
     }
 }
 
-/// All sets of up to four inputs that are not the process's own: proper.
+/// All sets of up to four inputs that are not the process's own: proper, unless
+/// it is tied and the count is another one.
 pub fn input_sets(sheet: &Sheet, index: usize) -> Vec<ChangedSheet> {
     let mut copies = ChangedCopies::new(sheet);
+    let own_count = sheet.processes[index].inputs.count_ones();
     for inputs in input_masks(sheet, index, |count| count <= MOST_INPUTS) {
-        copies.add(0, |s| s.processes[index].inputs = inputs);
+        let differs = is_tied(sheet, index) && inputs.count_ones() != own_count;
+        let answer = if differs { WRONG_TIE } else { 0 };
+        copies.add(answer, |s| s.processes[index].inputs = inputs);
     }
     copies.changed
+}
+
+fn is_tied(sheet: &Sheet, index: usize) -> bool {
+    sheet.ties.iter().any(|tie| tie.contains(&(index as u8)))
 }
 
 fn not_own_outputs(sheet: &Sheet, index: usize) -> u8 {
@@ -124,21 +133,26 @@ fn input_masks(sheet: &Sheet, index: usize, fits: impl Fn(u32) -> bool) -> Vec<u
     masks.filter(|mask: &u8| fits(mask.count_ones())).collect()
 }
 
-/// A variable without an owner, alone and with a wrong automaton behind it.
+/// A variable without an owner, alone and with a wrong automaton behind it. If
+/// its owner was tied, it now has one output less than another: that comes first.
 pub fn owner_faults(sheet: &Sheet) -> Vec<ChangedSheet> {
     let mut copies = ChangedCopies::new(sheet);
     for variable in sheet.environment..sheet.variables {
+        let owns = |index: &usize| sheet.processes[*index].outputs >> variable & 1 == 1;
+        let mut owners = (0..sheet.processes.len()).filter(owns);
+        let tied = owners.any(|owner| is_tied(sheet, owner));
+        let wrong = if tied { WRONG_TIE } else { WRONG_COMPOSITION };
         let disown = |s: &mut Sheet| {
             for process in &mut s.processes {
                 process.outputs &= !(1 << variable);
             }
         };
-        copies.add(WRONG_COMPOSITION, disown);
-        copies.add(WRONG_COMPOSITION, |s| {
+        copies.add(wrong, disown);
+        copies.add(wrong, |s| {
             disown(s);
             s.states = 0;
         });
-        copies.add(WRONG_COMPOSITION, |s| {
+        copies.add(wrong, |s| {
             disown(s);
             s.initial = s.states;
         });
@@ -146,7 +160,32 @@ pub fn owner_faults(sheet: &Sheet) -> Vec<ChangedSheet> {
     copies.changed
 }
 
-/// Every choice of bounds: proper up to T = 256, and 5 above it.
+/// Each way in which the tie of that index can be wrong.
+pub fn tie_faults(sheet: &Sheet, index: usize) -> Vec<ChangedSheet> {
+    let mut copies = ChangedCopies::new(sheet);
+    let wrong = WRONG_TIE;
+    for side in 0..2 {
+        for missing in values_past(sheet.processes.len() as u8) {
+            copies.add(wrong, |s| s.ties[index][side] = missing);
+            copies.add(wrong, |s| s.ties[index] = [missing; 2]);
+        }
+        copies.add(wrong, |s| s.ties[index][side] = s.ties[index][1 - side]);
+        let tied = usize::from(sheet.ties[index][side]);
+        let own_bound = usize::from(sheet.processes[tied].bound);
+        for bound in (1..=MOST_BOUND).filter(|bound| *bound != own_bound) {
+            copies.add(wrong, |s| s.processes[tied].bound = bound as u8);
+        }
+        let own_count = sheet.processes[tied].inputs.count_ones();
+        let other_count = |count| count <= MOST_INPUTS && count != own_count;
+        for inputs in input_masks(sheet, tied, other_count) {
+            copies.add(wrong, |s| s.processes[tied].inputs = inputs);
+        }
+    }
+    copies.changed
+}
+
+/// Every choice of bounds: proper up to T = 256, and 5 above it; before both 15
+/// where those of tied processes differ.
 pub fn all_bounds(sheet: &Sheet) -> Vec<ChangedSheet> {
     let mut copies = ChangedCopies::new(sheet);
     let count = sheet.processes.len();
@@ -155,8 +194,14 @@ pub fn all_bounds(sheet: &Sheet) -> Vec<ChangedSheet> {
             .map(|index| choice / MOST_BOUND.pow(index) % MOST_BOUND + 1)
             .collect();
         let composed = bounds.iter().product::<usize>() << sheet.environment;
-        let fits = composed <= MOST_COMPOSED;
-        let answer = if fits { 0 } else { WRONG_COMPOSITION };
+        let mut ties = sheet.ties.iter().map(|tie| tie.map(usize::from));
+        let answer = if ties.any(|[one, other]| bounds[one] != bounds[other]) {
+            WRONG_TIE
+        } else if composed <= MOST_COMPOSED {
+            0
+        } else {
+            WRONG_COMPOSITION
+        };
         copies.add(answer, |s| {
             for (process, bound) in s.processes.iter_mut().zip(bounds) {
                 process.bound = bound as u8;
@@ -216,6 +261,9 @@ pub fn field_faults(sheet: &Sheet) -> Vec<ChangedSheet> {
         sheets.extend(process_faults(sheet, index));
     }
     sheets.extend(owner_faults(sheet));
+    for index in 0..sheet.ties.len() {
+        sheets.extend(tie_faults(sheet, index));
+    }
     sheets.extend(automaton_faults(sheet));
     for index in 0..sheet.edges.len() {
         sheets.extend(edge_faults(sheet, index));
@@ -242,27 +290,49 @@ pub fn inserted_records(sheet: &Sheet) -> Vec<ChangedSheet> {
 
 /// Records that would be proper somewhere, and the answer if they stand here.
 fn extra_records(sheet: &Sheet, index: usize) -> Vec<(Vec<u8>, Refusal)> {
-    let processes = sheet.processes.len();
-    let automaton = 1 + processes;
+    let first_tie = 1 + sheet.processes.len();
+    let automaton = first_tie + sheet.ties.len();
     let end = automaton + 1 + sheet.edges.len();
     // A process without outputs and with one state leaves owners and T alone.
-    let process_fits = processes < MOST_PROCESSES && (1..=automaton).contains(&index);
+    let process_fits = sheet.processes.len() < MOST_PROCESSES && (1..=first_tie).contains(&index);
     let edge_fits = sheet.edges.len() < MOST_EDGES && (automaton + 1..=end).contains(&index);
     let answer_if = |fits| if fits { 0 } else { WRONG_MARK };
 
     let records = sheet.records();
     let mut extra = vec![
         (records[0].clone(), WRONG_MARK),
-        (
-            record(RecordKind::Process, &[0, 0, 1]),
-            answer_if(process_fits),
-        ),
         (records[automaton].clone(), early_automaton(sheet, index)),
         (record(RecordKind::End, &[]), WRONG_MARK),
         (b"TB\0\0\0\0".to_vec(), WRONG_MARK),
     ];
+    // Before others it would give them other numbers, and ties with them.
+    if sheet.ties.is_empty() || index == first_tie || !process_fits {
+        let process = record(RecordKind::Process, &[0, 0, 1]);
+        extra.push((process, answer_if(process_fits)));
+    }
+    let ties = sheet.ties.iter().copied().chain([[0, 0]]);
+    extra.extend(ties.map(|tie| (record(RecordKind::Tie, &tie), extra_tie(sheet, index, tie))));
     extra.extend(RecordKind::EDGES.map(|kind| (record(kind, &[0; 4]), answer_if(edge_fits))));
     extra
+}
+
+/// The answer to one more SY: one of the sheet's own, or one of process 0 with
+/// itself. Behind a PR it may stand, but it asks for its processes; if they are
+/// there already, a PR behind it is wrong.
+fn extra_tie(sheet: &Sheet, index: usize, tie: Tie) -> Refusal {
+    let processes = sheet.processes.len();
+    let automaton = 1 + processes + sheet.ties.len();
+    let read = processes.min(index.saturating_sub(1));
+    let is_fourth = index > processes + MOST_TIES;
+    if index < 2 || index > automaton || is_fourth {
+        WRONG_MARK
+    } else if tie[0] == tie[1] || tie.iter().any(|number| usize::from(*number) >= read) {
+        WRONG_TIE
+    } else if read < processes || sheet.ties.len() == MOST_TIES {
+        WRONG_MARK
+    } else {
+        0
+    }
 }
 
 /// The answer to one more AU. It may stand behind the first PR, but it asks for
@@ -277,7 +347,8 @@ fn early_automaton(sheet: &Sheet, index: usize) -> Refusal {
     }
 }
 
-/// One record less, each of them in turn.
+/// One record less, each of them in turn; but processes only if none is tied,
+/// since those behind get other numbers.
 pub fn removed_records(sheet: &Sheet) -> Vec<ChangedSheet> {
     let records = sheet.records();
     let without = |index| {
@@ -288,12 +359,17 @@ pub fn removed_records(sheet: &Sheet) -> Vec<ChangedSheet> {
             answer: answer_without(sheet, index),
         }
     };
-    (0..records.len()).map(without).collect()
+    let is_process = |index: usize| (1..=sheet.processes.len()).contains(&index);
+    (0..records.len())
+        .filter(|index| sheet.ties.is_empty() || !is_process(*index))
+        .map(without)
+        .collect()
 }
 
 fn answer_without(sheet: &Sheet, index: usize) -> Refusal {
     let processes = sheet.processes.len();
-    if index == 0 || index == processes + 1 {
+    let automaton = 1 + processes + sheet.ties.len();
+    if index == 0 || index == automaton {
         WRONG_MARK
     } else if index <= processes {
         match (processes, sheet.processes[index - 1].outputs) {
@@ -301,7 +377,7 @@ fn answer_without(sheet: &Sheet, index: usize) -> Refusal {
             (_, 0) => 0,
             _ => WRONG_COMPOSITION,
         }
-    } else if index < processes + 2 + sheet.edges.len() {
+    } else if index <= automaton + sheet.edges.len() {
         0
     } else {
         CUT_OFF
@@ -327,6 +403,43 @@ pub fn fifth_process(sheet: &Sheet) -> Vec<ChangedSheet> {
         before,
         &record(RecordKind::Process, &[255, 255, 0]),
     ));
+    sheets
+}
+
+/// An SY before any PR, a PR behind an SY and a fourth SY, each whole and cut, in
+/// a sheet that has three.
+pub fn misplaced_ties(sheet: &Sheet) -> Vec<ChangedSheet> {
+    assert_eq!(sheet.ties.len(), MOST_TIES);
+    let records = sheet.records();
+    let first_tie = 1 + sheet.processes.len();
+    let mut sheets = Vec::new();
+    for tie in [sheet.ties[0], [255; 2]] {
+        let tie = record(RecordKind::Tie, &tie);
+        sheets.extend(cut_surplus(&records[..1], &tie));
+        sheets.extend(cut_surplus(&records[..first_tie + MOST_TIES], &tie));
+    }
+    for process in [[0, 0, 1], [255, 255, 0]] {
+        let process = record(RecordKind::Process, &process);
+        for ties in 1..=MOST_TIES {
+            sheets.extend(cut_surplus(&records[..first_tie + ties], &process));
+        }
+    }
+    sheets
+}
+
+/// A permitted SY cut off, whatever its first number.
+pub fn cut_ties(sheet: &Sheet) -> Vec<ChangedSheet> {
+    let records = sheet.records();
+    let mut sheets = Vec::new();
+    for ties in 0..sheet.ties.len() {
+        let before = records[..1 + sheet.processes.len() + ties].concat();
+        let firsts = (0..=255).map(|first| vec![b'S', b'Y', first]);
+        let cuts = firsts.chain([vec![b'S'], vec![b'S', b'Y']]);
+        sheets.extend(cuts.map(|cut| ChangedSheet {
+            bytes: [before.clone(), cut].concat(),
+            answer: CUT_OFF,
+        }));
+    }
     sheets
 }
 

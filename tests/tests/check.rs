@@ -1,18 +1,26 @@
 //! The library's check of a sheet against the independent reading.
 
-use soclethyme_tests::bench_cases::{case_a, case_j, proper_cases, refused_cases, SHEET_A};
+use soclethyme_tests::bench_cases::{
+    case_a, case_j, case_s, case_u, proper_cases, refused_cases, SHEET_A, SHEET_S, SHEET_U,
+};
 use soclethyme_tests::edge_kinds::{assert_both_kinds, count_kinds};
 use soclethyme_tests::ffi;
 use soclethyme_tests::random_faults;
 use soclethyme_tests::random_sheets::{self, shapes, Shape};
+use soclethyme_tests::random_ties;
 use soclethyme_tests::refusal::{CUT_OFF, SHEET_REFUSALS, WRONG_EDGE, WRONG_MARK};
 use soclethyme_tests::rng::Rng;
 use soclethyme_tests::sheet::{
-    read_sheet, read_with_mark, RecordKind, Sheet, LONGEST_SHEET, MOST_COMPOSED,
+    read_sheet, Reading, RecordKind, Sheet, LONGEST_SHEET, MOST_COMPOSED,
 };
 use soclethyme_tests::single_faults::{self, ChangedSheet};
 use soclethyme_tests::tally::Tally;
 use soclethyme_tests::text::hex;
+use soclethyme_tests::tie_places::{
+    assert_ties, count_refusal, count_ties, TiePlace, BEFORE_COMPOSITION, CUT_BEHIND_PROCESS,
+    ONLY_FAULT, PLACE, PLACE_OF_MARK,
+};
+use soclethyme_tests::ties::TieFault;
 
 const SEED: u64 = 0x5EED_0001;
 
@@ -27,8 +35,8 @@ const REFUSED_AT_EX: &str = "refused at an EX";
 
 /// Holds the library's answer against the independent one.
 fn compare(tally: &mut Tally, bytes: &[u8]) -> u32 {
-    let (read, mark) = read_with_mark(bytes);
-    let own = read.err().unwrap_or(0);
+    let reading = Reading::of(bytes);
+    let own = reading.refusal.unwrap_or(0);
     let library = ffi::check(bytes);
     assert_eq!(
         library,
@@ -39,9 +47,10 @@ fn compare(tally: &mut Tally, bytes: &[u8]) -> u32 {
     );
     tally.count("check", own);
     tally.count("length of a sheet", bytes.len());
-    if own != 0 && mark == *RecordKind::EdgeUnless.mark() {
+    if own != 0 && reading.mark == RecordKind::EdgeUnless.mark() {
         tally.count(REFUSED_AT_EX, own);
     }
+    count_refusal(tally, &reading);
     own
 }
 
@@ -73,6 +82,7 @@ fn count_properties(tally: &mut Tally, sheet: &Sheet) {
     tally.count("rejecting states", sheet.rejecting.count_ones());
     tally.count("edges", sheet.edges.len());
     count_kinds(tally, sheet);
+    count_ties(tally, sheet);
     tally.count("length", sheet.bytes().len());
     for process in &sheet.processes {
         tally.count("inputs", process.inputs.count_ones());
@@ -98,6 +108,7 @@ fn assert_properties(tally: &Tally) {
     tally.assert_often("rejecting states", 0..=16, often);
     tally.assert_often("edges", 0..=64, often);
     assert_both_kinds(tally);
+    assert_ties(tally);
     tally.assert_often("length", [18, LONGEST_SHEET], often);
     tally.assert_often("inputs", 0..=4, often);
     tally.assert_often("outputs", 0..=8, often);
@@ -145,12 +156,15 @@ fn compare_single_faults(tally: &mut Tally, rng: &mut Rng) {
         }
     }
     for _ in 0..3 {
-        compare_faults_of(tally, &random_sheets::with_all_records(rng));
+        let sheet = random_sheets::with_all_records(rng);
+        compare_faults_of(tally, &sheet);
+        compare_made(tally, &single_faults::cut_ties(&sheet));
     }
     for _ in 0..50 {
         let sheet = random_sheets::with_all_records(rng);
         compare_made(tally, &single_faults::fifth_process(&sheet));
         compare_made(tally, &single_faults::surplus_edge(&sheet));
+        compare_made(tally, &single_faults::misplaced_ties(&sheet));
     }
 }
 
@@ -298,10 +312,43 @@ fn check_agrees_on_generated_sheets() {
     assert!(tally.total("check") >= 200_000);
     tally.assert_often("check", [0], 10_000);
     tally.assert_often("check", SHEET_REFUSALS, 5_000);
-    tally.assert_only("check", 0..=7);
+    tally.assert_only("check", [&[0], &SHEET_REFUSALS[..]].concat());
     let at_ex = [CUT_OFF, WRONG_MARK, WRONG_EDGE];
     tally.assert_often(REFUSED_AT_EX, at_ex, 2_000);
     tally.assert_only(REFUSED_AT_EX, at_ex);
+}
+
+/// A tied sheet with a wrong tie, with an SY in a wrong place or cut off, or with
+/// any faults.
+fn faulty_ties(rng: &mut Rng) -> Vec<u8> {
+    let mut sheet = random_sheets::with_ties(rng, 2);
+    match rng.below(4) {
+        0 | 1 => {
+            random_ties::spoil(rng, &mut sheet);
+            sheet.bytes()
+        }
+        2 => random_ties::misplaced(rng, &sheet),
+        _ => random_faults::changed_sheet(rng, &sheet),
+    }
+}
+
+#[test]
+fn check_agrees_on_ties() {
+    let mut tally = Tally::default();
+    let mut rng = Rng::new(SEED);
+    for _ in 0..100_000 {
+        compare(&mut tally, &faulty_ties(&mut rng));
+    }
+    tally.print("tied sheets checked");
+
+    let often = 1_000;
+    let faults = TieFault::ALL.map(|fault| fault as usize);
+    tally.assert_often(ONLY_FAULT, faults, often);
+    let places = TiePlace::ALL.map(|place| place as usize);
+    tally.assert_often(PLACE, places, often);
+    tally.assert_often(PLACE_OF_MARK, places, often / 4);
+    tally.assert_often(CUT_BEHIND_PROCESS, [false, true], often);
+    tally.assert_often(BEFORE_COMPOSITION, [false, true], often);
 }
 
 /// The library and the independent reading both give the stated answer.
@@ -316,6 +363,15 @@ fn bench_case_a_is_read_field_by_field() {
     assert_eq!(case_a().bytes(), SHEET_A);
     assert_eq!(read_sheet(&SHEET_A), Ok(case_a()));
     assert_answer("case A", &SHEET_A, 0);
+}
+
+#[test]
+fn bench_cases_s_and_u_are_read_field_by_field() {
+    for (sheet, bytes) in [(case_s(), &SHEET_S[..]), (case_u(), &SHEET_U[..])] {
+        assert_eq!(sheet.bytes(), bytes);
+        assert_eq!(read_sheet(bytes), Ok(sheet));
+        assert_answer("case S or U", bytes, 0);
+    }
 }
 
 #[test]

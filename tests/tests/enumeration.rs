@@ -1,13 +1,13 @@
 //! The enumeration that find is held against: the order and the count of the
 //! choices, and the fast one against the plain one. The library is not called.
 
-use soclethyme_tests::bench_cases::{case_c, proper_cases, BOOK_A};
+use soclethyme_tests::bench_cases::{book_s, case_c, proper_cases, BOOK_A};
 use soclethyme_tests::book::{book_of, read, TABLES_LENGTH};
-use soclethyme_tests::choices::{self, choice_count, Choices, FoundChoice};
+use soclethyme_tests::choices::{self, choice_count, choices, untied_count, FoundChoice};
 use soclethyme_tests::detectors::{detector, input_masks};
 use soclethyme_tests::fast_enumeration;
 use soclethyme_tests::few_choices;
-use soclethyme_tests::many_choices::{opening, relay, three_clients};
+use soclethyme_tests::many_choices::{opening, relay, three_clients, tied_openings};
 use soclethyme_tests::proper_sheet::ProperSheet;
 use soclethyme_tests::random_sheets;
 use soclethyme_tests::rng::Rng;
@@ -27,9 +27,13 @@ fn assert_proper_choice(proper: &ProperSheet, entries: &[u8]) {
 #[test]
 fn choices_rise_and_are_counted() {
     let mut rng = Rng::new(SEED);
-    for _ in 0..1_000 {
-        let proper = ProperSheet::new(few_choices::sheet(&mut rng, 300));
-        let choices: Vec<Vec<u8>> = Choices::of(&proper).collect();
+    for round in 0..1_000 {
+        let sheet = match round % 2 {
+            0 => few_choices::sheet(&mut rng, 300),
+            _ => few_choices::with_ties(&mut rng, 5_000),
+        };
+        let proper = ProperSheet::new(sheet);
+        let choices: Vec<Vec<u8>> = choices(&proper).collect();
         assert_eq!(choices.len() as u64, choice_count(&proper.sheet));
         assert!(choices.iter().is_sorted_by(|one, next| one < next));
         for entries in &choices {
@@ -44,6 +48,9 @@ fn counts_of_many_choices() {
     assert_eq!(choice_count(&three_clients(3, 2)), 47_775_744);
     assert_eq!(choice_count(&relay(3, 3)), 34_012_224);
     assert_eq!(choice_count(&opening(3)), 34_012_224);
+    let tied = tied_openings(3);
+    assert_eq!(choice_count(&tied), 34_012_224);
+    assert_eq!(untied_count(&tied), 34_012_224 * 34_012_224);
     let sheet = random_sheets::with_longest_book(&mut Rng::new(SEED));
     assert_eq!(choice_count(&sheet), u64::MAX);
 }
@@ -74,6 +81,26 @@ fn fast_enumeration_agrees() {
     assert!(none.len() >= 800 && not_first.count() >= 800);
 }
 
+/// How many sheets have ties.
+const WITH_TIES: usize = 1_000;
+
+/// Both agree, and so does the fast test of all tables that keep the ties.
+#[test]
+fn fast_enumeration_agrees_on_ties() {
+    let mut rng = Rng::new(SEED);
+    let found = (0..WITH_TIES).map(|_| {
+        let sheet = few_choices::with_ties(&mut rng, 20_000);
+        let proper = ProperSheet::new(sheet.clone());
+        let found = agreed(sheet);
+        let filtered = fast_enumeration::first_among(&proper, choices(&proper));
+        assert_eq!(filtered, found, "sheet {}", hex(&proper.bytes));
+        found
+    });
+    let (found, none): (Vec<_>, Vec<_>) = found.partition(Option::is_some);
+    let not_first = found.iter().flatten().filter(|found| found.before > 0);
+    assert!(none.len() >= WITH_TIES / 5 && not_first.count() >= WITH_TIES / 5);
+}
+
 /// One input and two, wherever they lie; with more the plain one takes long.
 #[test]
 fn fast_enumeration_agrees_on_input_masks() {
@@ -86,9 +113,22 @@ fn fast_enumeration_agrees_on_input_masks() {
 fn fast_enumeration_agrees_on_cases() {
     for (name, sheet) in proper_cases() {
         let found = agreed(sheet);
-        let none = ["case B", "case C", "case F, bound"];
+        let none = [
+            "case B",
+            "case C",
+            "case F, bound",
+            "case S, one edge more",
+            "case U, chained",
+            "case U, circular",
+        ];
         let expected = !none.iter().any(|none| name.starts_with(none));
         assert_eq!(found.is_some(), expected, "{name}");
+        if let Some(case_s) = found.as_ref().filter(|_| name.starts_with("case S")) {
+            let untied = name == "case S, no tie";
+            let (before, masks) = if untied { (6, (1, 8)) } else { (3, (5, 10)) };
+            assert_eq!(case_s.before, before, "{name}");
+            assert_eq!(case_s.book, book_s(masks.0, masks.1), "{name}");
+        }
         if let Some(case_a) = found.filter(|_| name.starts_with("case A")) {
             assert_eq!((case_a.before, case_a.book), (2_016, BOOK_A.to_vec()));
         }

@@ -3,11 +3,12 @@
 
 use soclethyme_tests::bench_cases::{
     case_a, case_a_unless, case_b, case_c, case_d, case_e, case_f, case_f_unless, case_g, case_h,
-    case_j, refused_cases, ANNOTATION_A, BOOK_A, BOOK_E, REJECTING_0, REJECTING_1, SHEET_A, TEXT_A,
-    TEXT_D,
+    case_j, case_s, case_s_with_edge, case_u, case_u_circular, case_u_with_tie, refused_cases,
+    ANNOTATION_A, BOOK_A, BOOK_E, REJECTING_0, REJECTING_1, SHEET_A, SHEET_S, SHEET_U, TEXT_A,
+    TEXT_D, TEXT_S, TEXT_S_UNTIED, TEXT_U,
 };
 use soclethyme_tests::book::{layout, LONGEST_BOOK};
-use soclethyme_tests::choices::{self, choice_count, FoundChoice};
+use soclethyme_tests::choices::{self, choice_count, untied_count, FoundChoice};
 use soclethyme_tests::detectors::{detector, input_masks};
 use soclethyme_tests::edge_kinds::{assert_both_kinds, count_kinds};
 use soclethyme_tests::fast_enumeration;
@@ -15,7 +16,7 @@ use soclethyme_tests::few_choices;
 use soclethyme_tests::ffi::{self, NEGATIVE, POSITIVE};
 use soclethyme_tests::guarded_buffer::GuardedBuffer;
 use soclethyme_tests::inputs_read::{count_inputs, INPUT_COUNT, READS_ACROSS_GAP, READS_HIGHEST};
-use soclethyme_tests::many_choices::{opening, relay, three_clients};
+use soclethyme_tests::many_choices::{opening, relay, three_clients, tied_openings};
 use soclethyme_tests::proper_sheet::ProperSheet;
 use soclethyme_tests::random_faults;
 use soclethyme_tests::random_sheets::{self, shapes};
@@ -29,6 +30,7 @@ use soclethyme_tests::sheet::{read_sheet, Sheet, MOST_EDGES, MOST_PROCESSES, MOS
 use soclethyme_tests::single_faults;
 use soclethyme_tests::tally::Tally;
 use soclethyme_tests::text::hex;
+use soclethyme_tests::ties::tied_groups;
 
 const SEED: u64 = 0x5EED_0006;
 
@@ -94,12 +96,22 @@ const MOST_FOR_PLAIN: u64 = 300;
 impl SearchedSheet {
     fn new(sheet: Sheet) -> Self {
         let proper = ProperSheet::new(sheet);
-        let found = if choice_count(&proper.sheet) <= MOST_FOR_PLAIN {
+        let found = if untied_count(&proper.sheet) <= MOST_FOR_PLAIN {
             choices::first_choice(&proper)
         } else {
             fast_enumeration::first_choice(&proper)
         };
         SearchedSheet { proper, found }
+    }
+
+    /// Searched among all tables, of which those that break a tie are passed
+    /// over one by one.
+    fn filtered(sheet: Sheet) -> Self {
+        let proper = ProperSheet::new(sheet);
+        SearchedSheet {
+            found: fast_enumeration::first_among(&proper, choices::choices(&proper)),
+            proper,
+        }
     }
 
     /// What find wrote is passed by judge, and annotate writes the same.
@@ -281,12 +293,13 @@ fn finds_agree_on_more_choices() {
         relay(3, 2),
         relay(2, 3),
         opening(2),
+        tied_openings(2),
     ];
     for sheet in sheets {
         compare(&mut tally, &mut rng, &SearchedSheet::new(sheet));
     }
-    assert_eq!(tally.total("none"), 9);
-    assert_eq!(tally.seen("none", true), 7);
+    assert_eq!(tally.total("none"), 10);
+    assert_eq!(tally.seen("none", true), 8);
     assert_eq!(tally.seen("found late", true), 2);
 }
 
@@ -310,6 +323,97 @@ fn finds_agree_on_high_variables() {
     tally.assert_often(INPUT_COUNT, 0..=2, SHEETS_WITH_HIGH / 10);
     tally.assert_often(READS_HIGHEST, [true], SHEETS_WITH_HIGH / 10);
     tally.assert_often(READS_ACROSS_GAP, [true], SHEETS_WITH_HIGH / 10);
+}
+
+/// How many tied sheets are searched.
+const SHEETS_WITH_TIES: u64 = 5_000;
+
+const CHAINED: &str = "most processes with one table";
+
+/// Counts what ties make of a search: the first choice without them may break
+/// them.
+fn count_untied(tally: &mut Tally, searched: &SearchedSheet) {
+    let untied = SearchedSheet::new(searched.proper.sheet.without_ties());
+    let entries = |searched: &SearchedSheet| searched.found.as_ref().map(|f| f.entries.clone());
+    let (tied, untied) = (entries(searched), entries(&untied));
+    tally.count("none by ties alone", tied.is_none() && untied.is_some());
+    tally.count("other tables by ties", tied.is_some() && tied != untied);
+}
+
+/// Counts what the largest group of tied processes is like.
+fn count_tied(tally: &mut Tally, sheet: &Sheet) {
+    let groups = tied_groups(sheet).into_iter();
+    let group = groups.max_by_key(Vec::len).expect("a process");
+    tally.count(CHAINED, group.len());
+    let [one, other] = [group[0], group[1]].map(|index| sheet.processes[index]);
+    tally.count("tied, states", one.bound);
+    tally.count("tied, inputs", one.inputs.count_ones());
+    tally.count("tied, outputs", one.outputs.count_ones());
+    tally.count("tied, other inputs", one.inputs != other.inputs);
+    tally.count(
+        "tied, outputs with a gap",
+        has_gap(one.outputs) || has_gap(other.outputs),
+    );
+}
+
+/// Whether a variable outside of the mask lies between two of it.
+fn has_gap(mask: u8) -> bool {
+    mask.count_ones() + mask.leading_zeros() + mask.trailing_zeros() < 8
+}
+
+#[test]
+fn finds_agree_on_ties() {
+    let mut tally = Tally::default();
+    let mut rng = Rng::new(SEED);
+    for _ in 0..SHEETS_WITH_TIES {
+        let sheet = few_choices::with_ties(&mut rng, 20_000);
+        let searched = SearchedSheet::filtered(sheet);
+        compare(&mut tally, &mut rng, &searched);
+        count_untied(&mut tally, &searched);
+        count_tied(&mut tally, &searched.proper.sheet);
+    }
+    tally.print("tied sheets searched");
+
+    assert_eq!(tally.total("none"), SHEETS_WITH_TIES);
+    tally.assert_often("none", [true], SHEETS_WITH_TIES / 4);
+    tally.assert_often("none by ties alone", [true], SHEETS_WITH_TIES / 10);
+    tally.assert_often("other tables by ties", [true], SHEETS_WITH_TIES / 10);
+    tally.assert_often("not all zeros", [true], SHEETS_WITH_TIES / 5);
+    tally.assert_often("processes", 2..=MOST_PROCESSES, SHEETS_WITH_TIES / 10);
+    tally.assert_often(CHAINED, 2..=MOST_PROCESSES, SHEETS_WITH_TIES / 20);
+    tally.assert_often("tied, states", 1..=2, SHEETS_WITH_TIES / 10);
+    tally.assert_often("tied, inputs", 0..=2, SHEETS_WITH_TIES / 20);
+    tally.assert_often("tied, outputs", 1..=3, SHEETS_WITH_TIES / 50);
+    let properties = ["tied, other inputs", "tied, outputs with a gap"];
+    for property in properties {
+        tally.assert_often(property, [true], SHEETS_WITH_TIES / 10);
+    }
+}
+
+/// How many are drawn that have far more choices without their ties.
+const SHEETS_WITH_MORE: u64 = 2_000;
+
+/// Those with few choices, which are made without going through all tables:
+/// longer chains and more states than above.
+#[test]
+fn finds_agree_on_ties_of_more_tables() {
+    let mut tally = Tally::default();
+    let mut rng = Rng::new(SEED);
+    for _ in 0..SHEETS_WITH_MORE {
+        let sheet = few_choices::with_ties(&mut rng, 100_000_000);
+        if choice_count(&sheet) <= 20_000 {
+            let searched = SearchedSheet::new(sheet);
+            compare(&mut tally, &mut rng, &searched);
+            count_tied(&mut tally, &searched.proper.sheet);
+        }
+    }
+    tally.print("tied sheets with more tables searched");
+
+    tally.assert_often("none", [false, true], SHEETS_WITH_MORE / 4);
+    tally.assert_often("not all zeros", [true], SHEETS_WITH_MORE / 10);
+    tally.assert_often(CHAINED, 2..=MOST_PROCESSES, SHEETS_WITH_MORE / 20);
+    tally.assert_often("tied, states", 1..=3, SHEETS_WITH_MORE / 20);
+    tally.assert_often("tied, inputs", 0..=2, SHEETS_WITH_MORE / 20);
 }
 
 /// Tables that depend on where each input is packed, for every mask of inputs:
@@ -538,6 +642,32 @@ fn bench_case_j() {
     assert_eq!(found.annotation[0], 0);
     assert_eq!(found.annotation[1..], [BLANK; 255]);
     assert_refused_cases("case J", 1);
+}
+
+/// With the tie and without it, and where the tie leaves no tables.
+#[test]
+fn bench_case_s() {
+    assert_eq!(case_s().bytes(), SHEET_S);
+    assert_printed(case_s(), TEXT_S);
+    assert_printed(case_s().without_ties(), TEXT_S_UNTIED);
+    assert_eq!(find(case_s_with_edge()), None);
+    assert!(find(case_s_with_edge().without_ties()).is_some());
+    assert_refused_cases("case S", 70);
+}
+
+/// With two pairs that are tied, with both tied together, and with a third tie
+/// that says nothing new.
+#[test]
+fn bench_case_u() {
+    assert_eq!(case_u().bytes(), SHEET_U);
+    assert_printed(case_u(), TEXT_U);
+    for chaining in [[3, 1], [1, 3], [0, 2], [0, 3], [2, 1]] {
+        assert_eq!(find(case_u_with_tie(chaining)), None);
+    }
+    for repeated in [[2, 3], [3, 2], [1, 0]] {
+        assert_printed(case_u_with_tie(repeated), TEXT_U);
+    }
+    assert_eq!(find(case_u_circular()), None);
 }
 
 #[test]

@@ -2,17 +2,19 @@
 //! input goes to both calls, and every lent number is compared after them.
 
 use soclethyme_tests::bench_cases::{
-    case_d, case_e, case_f, case_g, case_h, ANNOTATION_A, BOOK_A, BOOK_D, BOOK_E, REJECTING_0,
-    REJECTING_1, SHEET_A,
+    book_s, case_d, case_e, case_f, case_g, case_h, ANNOTATION_A, BOOK_A, BOOK_D, BOOK_E,
+    REJECTING_0, REJECTING_1, SHEET_A, SHEET_S,
 };
+use soclethyme_tests::book::{book_of, entries};
 use soclethyme_tests::edge_kinds::{assert_both_kinds, count_kinds};
+use soclethyme_tests::few_choices;
 use soclethyme_tests::ffi::{self, finding_number, NEGATIVE, POSITIVE};
 use soclethyme_tests::guarded_buffer::GuardedBuffer;
 use soclethyme_tests::inputs_read::{count_inputs, INPUT_COUNT, READS_ACROSS_GAP, READS_HIGHEST};
 use soclethyme_tests::joint_counter::{JointCounter, LONGEST_COUNTER};
 use soclethyme_tests::proper_sheet::{ProperSheet, SheetAndBook};
 use soclethyme_tests::random_annotations;
-use soclethyme_tests::random_books::{maybe_wrong_book, with_book, wrong_byte};
+use soclethyme_tests::random_books::{loosed_entries, maybe_wrong_book, with_book, wrong_byte};
 use soclethyme_tests::random_faults;
 use soclethyme_tests::random_sheets::{self, any_shape, shapes, Shape};
 use soclethyme_tests::refusal::{
@@ -25,6 +27,7 @@ use soclethyme_tests::sheet::{read_sheet, Edge, Sheet, MOST_INPUTS, MOST_VERTICE
 use soclethyme_tests::single_faults;
 use soclethyme_tests::tally::Tally;
 use soclethyme_tests::text::{hex, run_lengths};
+use soclethyme_tests::tie_places::{assert_ties, count_ties};
 
 const SEED: u64 = 0x5EED_0003;
 
@@ -96,6 +99,7 @@ fn count_properties(tally: &mut Tally, graph: &BookGraph) {
     tally.count("vertices", graph.vertices());
     let sheet = read_sheet(&graph.sheet).expect("a proper sheet");
     count_kinds(tally, &sheet);
+    count_ties(tally, &sheet);
     if let Some(annotation) = &graph.annotation {
         let greatest = usize::from(greatest_number(annotation));
         tally.count("greatest number", greatest);
@@ -215,6 +219,18 @@ fn compare_shapes(tally: &mut Tally, rng: &mut Rng) {
     }
 }
 
+/// Sheets of which three or four processes can share a table.
+fn compare_chained_ties(tally: &mut Tally, rng: &mut Rng) {
+    for _ in 0..300 {
+        let mut sheet = random_sheets::with_chained_ties(rng);
+        if rng.one_in(2) {
+            rejecting_loops::exclude_rejecting_loops(rng, &mut sheet);
+        }
+        let input = with_book(rng, sheet);
+        compare_annotations(tally, rng, &BookGraph::of(&input));
+    }
+}
+
 /// Sheets in which the highest variable can be read.
 fn compare_high_variables(tally: &mut Tally, rng: &mut Rng) {
     for _ in 0..1_000 {
@@ -262,7 +278,7 @@ fn counters(rng: &mut Rng) -> Vec<JointCounter> {
         counters.push(JointCounter::longest_closed(falling));
         counters.extend([false, true].map(|closed| JointCounter::widest(falling, closed)));
     }
-    counters.extend((0..60).map(|_| any_counter(rng)));
+    counters.extend((0..120).map(|_| any_counter(rng)));
     counters
 }
 
@@ -307,6 +323,47 @@ fn compare_wrong_byte(tally: &mut Tally, rng: &mut Rng, input: &SheetAndBook) {
     let graph = BookGraph::new(&input.proper.bytes, &book);
     for held in buffers(rng, &graph) {
         assert_eq!(compare(tally, &graph, &held), (answer, answer));
+    }
+}
+
+const BROKEN_BOOKS: &str = "books that break a tie, with a rejecting loop or not";
+
+/// A book that breaks a tie by one entry, with buffers of which some are too
+/// short: the book decides, unless its form is wrong too.
+fn compare_broken_tie(tally: &mut Tally, rng: &mut Rng, input: &SheetAndBook) {
+    let choice = entries(&input.proper.layout, &input.book);
+    let loosed = loosed_entries(rng, &input.proper, &choice);
+    if loosed.is_empty() {
+        return;
+    }
+    let loosed = rng.pick(&loosed);
+    let mut broken = choice.clone();
+    broken[loosed.at] = loosed.value;
+    let mut book = book_of(&input.proper.layout, &broken);
+    let untied = BookGraph::new(&input.proper.sheet.without_ties().bytes(), &book);
+    tally.count(BROKEN_BOOKS, untied.annotation.is_none());
+    for answer in [WRONG_ENTRY, WRONG_FORM] {
+        let graph = BookGraph::new(&input.proper.bytes, &book);
+        for held in buffers(rng, &graph) {
+            assert_eq!(compare(tally, &graph, &held), (answer, answer));
+        }
+        if let Some(annotation) = &untied.annotation {
+            assert_eq!(compare(tally, &graph, annotation), (answer, answer));
+        }
+        let position = book.len() - 1;
+        book[position] ^= 1;
+    }
+}
+
+fn compare_broken_ties(tally: &mut Tally, rng: &mut Rng) {
+    for round in 0..3_000 {
+        let sheet = match round % 3 {
+            0 => random_sheets::with_chained_ties(rng),
+            1 => random_sheets::with_ties(rng, 2),
+            _ => few_choices::with_ties(rng, 20_000),
+        };
+        let input = with_book(rng, sheet);
+        compare_broken_tie(tally, rng, &input);
     }
 }
 
@@ -360,10 +417,12 @@ fn verdicts_agree_on_generated_books() {
     let mut tally = Tally::default();
     let mut rng = Rng::new(SEED);
     compare_shapes(&mut tally, &mut rng);
+    compare_chained_ties(&mut tally, &mut rng);
     compare_high_variables(&mut tally, &mut rng);
     compare_largest(&mut tally, &mut rng);
     compare_counters(&mut tally, &mut rng);
     compare_wrong_books(&mut tally, &mut rng);
+    compare_broken_ties(&mut tally, &mut rng);
     compare_improper_sheets(&mut tally, &mut rng);
     tally.print("books judged and annotated");
 
@@ -382,6 +441,8 @@ fn verdicts_agree_on_generated_books() {
     tally.assert_only(INPUT_COUNT, 0..=MOST_INPUTS);
     tally.assert_often(READS_HIGHEST, [true], 500);
     tally.assert_often(READS_ACROSS_GAP, [true], 500);
+    tally.assert_often(BROKEN_BOOKS, [false, true], 200);
+    assert_ties(&tally);
     assert_answers(&tally, "judge");
     assert_answers(&tally, "annotate");
 }
@@ -442,6 +503,26 @@ fn bench_case_h_judgements() {
     assert_judged(&case_h(REJECTING_1), &[0, 1], POSITIVE);
     assert_annotated(&case_h(REJECTING_0).bytes(), &BOOK_E, &[1, 1]);
     assert_annotated(&case_h(REJECTING_1).bytes(), &BOOK_E, &[0, 1]);
+}
+
+/// S with both masks 05 and 0A has no loop, and with 01 and 02 has one. With 01
+/// and 08 its tie is broken, though there would be no loop: that comes before the
+/// buffer, and the form of the book before it.
+#[test]
+fn bench_case_s_verdicts() {
+    let tally = &mut Tally::default();
+    assert_annotated(&SHEET_S, &book_s(0x05, 0x0A), &[0, BLANK]);
+    let looped = BookGraph::new(&SHEET_S, &book_s(0x01, 0x02));
+    assert_eq!(compare(tally, &looped, &[0, BLANK]), (NEGATIVE, NEGATIVE));
+
+    let mut broken = book_s(0x01, 0x08);
+    for (last, answer) in [(0x4E, WRONG_ENTRY), (0x4F, WRONG_FORM)] {
+        broken[13] = last;
+        let graph = BookGraph::new(&SHEET_S, &broken);
+        for held in [&[][..], &[0], &[0, BLANK], &[0, BLANK, 7]] {
+            assert_eq!(compare(tally, &graph, held), (answer, answer));
+        }
+    }
 }
 
 /// No number lies above 65,534, and blank is none.

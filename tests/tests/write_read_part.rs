@@ -1,13 +1,17 @@
 //! The library's writing, reading and parting of books against the independent
 //! ones. After each call every lent byte is compared, also behind a refusal.
 
-use soclethyme_tests::bench_cases::{case_d, case_e, BOOK_A, BOOK_D, BOOK_E, SHEET_A};
-use soclethyme_tests::book::{self, book_of, entries, Tables, LONGEST_BOOK, TABLES_LENGTH};
+use soclethyme_tests::bench_cases::{
+    book_s, case_d, case_e, BOOK_A, BOOK_D, BOOK_E, SHEET_A, SHEET_S,
+};
+use soclethyme_tests::book::{
+    self, book_of, entries, ByteRule, Tables, LONGEST_BOOK, TABLES_LENGTH,
+};
 use soclethyme_tests::ffi::{self, numbered_part, part_number, success_number};
 use soclethyme_tests::guarded_buffer::GuardedBuffer;
 use soclethyme_tests::proper_sheet::ProperSheet;
 use soclethyme_tests::random_books::{
-    self, any_tables, maybe_wrong_book, maybe_wrong_tables, wrong_byte, wrong_bytes,
+    self, any_tables, loosed_entries, maybe_wrong_book, maybe_wrong_tables, wrong_byte, wrong_bytes,
 };
 use soclethyme_tests::random_faults;
 use soclethyme_tests::random_sheets::{self, shapes};
@@ -75,12 +79,17 @@ fn compare_part(tally: &mut Tally, sheet: &[u8], book: &[u8], process: usize) ->
     answer
 }
 
-/// Sheets of every shape, and those with the longest books.
+/// Sheets of every shape, such with chains of ties, and those with the longest
+/// books.
 fn proper_sheets(rng: &mut Rng) -> Vec<ProperSheet> {
     let mut sheets = Vec::new();
     for shape in shapes() {
         let sheet = random_sheets::with_few_edges(rng, shape);
         sheets.push(ProperSheet::new(sheet));
+    }
+    for _ in 0..20 {
+        let chained = random_sheets::with_chained_ties(rng);
+        sheets.push(ProperSheet::new(chained));
     }
     for _ in 0..3 {
         let longest = ProperSheet::new(random_sheets::with_longest_book(rng));
@@ -127,6 +136,41 @@ fn compare_wrong_tables(tally: &mut Tally, rng: &mut Rng, proper: &ProperSheet) 
             assert_eq!(answer, WRONG_ENTRY, "entry {entry} set to {wrong}");
         }
     }
+}
+
+/// What breaks a tie: a mask, or a next state.
+const BROKEN_TABLES: &str = "a tie broken by a mask";
+
+/// Each tied entry with another value that it may have by itself, in tables and
+/// in a book. The form of the book, and whether there is the process, come first;
+/// whether the book fits into its buffer comes later.
+fn compare_broken_ties(tally: &mut Tally, rng: &mut Rng, proper: &ProperSheet) {
+    let rules: Vec<ByteRule> = proper.entry_rules().collect();
+    let choice = random_books::entries(rng, proper);
+    for loosed in loosed_entries(rng, proper, &choice) {
+        let mut broken = choice.clone();
+        broken[loosed.at] = loosed.value;
+        let is_mask = matches!(rules[loosed.at], ByteRule::Output(_));
+        tally.count(BROKEN_TABLES, is_mask);
+        let tables = tables_of(&broken, rng.byte());
+        let length = any_length_around(rng, proper.layout.len());
+        let answer = compare_write(tally, &proper.bytes, &tables, &rng.bytes(length));
+        assert_eq!(answer, WRONG_ENTRY, "entry {} loosed", loosed.at);
+        compare_broken_book(tally, rng, proper, &book_of(&proper.layout, &broken));
+    }
+}
+
+fn compare_broken_book(tally: &mut Tally, rng: &mut Rng, proper: &ProperSheet, book: &[u8]) {
+    let missing = proper.sheet.processes.len();
+    assert_answer(tally, rng, proper, book, WRONG_ENTRY);
+    let answer = compare_part(tally, &proper.bytes, book, missing);
+    assert_eq!(answer, NO_PROCESS);
+
+    let mut wrong_form = book.to_vec();
+    wrong_form[book.len() - 1] ^= 1;
+    assert_answer(tally, rng, proper, &wrong_form, WRONG_FORM);
+    let answer = compare_part(tally, &proper.bytes, &wrong_form, missing);
+    assert_eq!(answer, NO_PROCESS);
 }
 
 /// Process numbers that there are, that there are not, and that would be there
@@ -239,7 +283,7 @@ fn compare_maybe_wrong(tally: &mut Tally, rng: &mut Rng) {
 
 /// Improper sheets, with books and tables that would suit the proper ones.
 fn compare_improper_sheets(tally: &mut Tally, rng: &mut Rng) {
-    for _ in 0..25_000 {
+    for _ in 0..40_000 {
         let proper = ProperSheet::new(random_sheets::proper(rng));
         let sheet = random_faults::changed_sheet(rng, &proper.sheet);
         let book = maybe_wrong_book(rng, &proper);
@@ -273,10 +317,15 @@ fn calls_agree_on_generated_books() {
     for proper in proper_sheets(&mut rng) {
         compare_written_books(&mut tally, &mut rng, &proper);
         compare_wrong_tables(&mut tally, &mut rng, &proper);
+        compare_broken_ties(&mut tally, &mut rng, &proper);
         compare_proper_books(&mut tally, &mut rng, &proper);
         compare_wrong_lengths(&mut tally, &mut rng, &proper);
         compare_wrong_bytes(&mut tally, &mut rng, &proper);
         compare_wrong_processes(&mut tally, &mut rng, &proper);
+    }
+    for _ in 0..300 {
+        let tied = random_sheets::with_ties(&mut rng, 2);
+        compare_broken_ties(&mut tally, &mut rng, &ProperSheet::new(tied));
     }
     compare_maybe_wrong(&mut tally, &mut rng);
     compare_improper_sheets(&mut tally, &mut rng);
@@ -287,6 +336,7 @@ fn calls_agree_on_generated_books() {
     assert_answers(&tally, "write", &[SHORT_BOOK_BUFFER, WRONG_ENTRY]);
     assert_answers(&tally, "read", &[WRONG_FORM, WRONG_ENTRY]);
     assert_answers(&tally, "part", &[WRONG_FORM, WRONG_ENTRY, NO_PROCESS]);
+    tally.assert_often(BROKEN_TABLES, [false, true], 200);
 }
 
 /// What is written is read back, and reading then writing gives the same book.
@@ -373,6 +423,45 @@ fn bench_case_d_book() {
 #[test]
 fn bench_case_e_book() {
     assert_book(&case_e().bytes(), &[0, 0], &BOOK_E, &[6]);
+}
+
+/// S's book with its tie kept, and with each pair of masks: packed they are alike
+/// or the tie is broken.
+#[test]
+fn bench_case_s_book() {
+    let (kept, broken) = (book_s(0x01, 0x02), book_s(0x01, 0x08));
+    assert_book(&SHEET_S, &[1, 0, 2, 0], &kept, &[6, 12]);
+    let tally = &mut Tally::default();
+    let held = [0xEE; TABLES_LENGTH];
+    for first in [0, 1, 4, 5] {
+        for second in [0, 2, 8, 10] {
+            let answer = if second == 2 * first { 0 } else { WRONG_ENTRY };
+            let book = book_s(first, second);
+            assert_eq!(compare_read(tally, &SHEET_S, &book, &held), answer);
+            assert_eq!(compare_part(tally, &SHEET_S, &book, 1), answer);
+            let tables = tables_of(&[first, 0, second, 0], 0xEE);
+            assert_eq!(compare_write(tally, &SHEET_S, &tables, &[0xEE; 14]), answer);
+            let short = if answer == 0 {
+                SHORT_BOOK_BUFFER
+            } else {
+                answer
+            };
+            assert_eq!(compare_write(tally, &SHEET_S, &tables, &[0xEE; 13]), short);
+        }
+    }
+    let mut wrong_form = broken;
+    wrong_form[13] = 0x4F;
+    assert_eq!(
+        compare_read(tally, &SHEET_S, &wrong_form, &held),
+        WRONG_FORM
+    );
+    for process in 0..2 {
+        let answer = compare_part(tally, &SHEET_S, &wrong_form, process);
+        assert_eq!(answer, WRONG_FORM);
+    }
+    for book in [kept, broken, wrong_form] {
+        assert_eq!(compare_part(tally, &SHEET_S, &book, 2), NO_PROCESS);
+    }
 }
 
 /// What A's book gets with this value at this position.

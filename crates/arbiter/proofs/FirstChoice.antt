@@ -5,8 +5,9 @@ use mathlib.Core.Option.{Option, none, some}
 use Prim.Native.Nat.{ℕ}
 use lib.ListN.{drop}
 use Rattle.model.specs.BenchCases.{choiceA}
-use Rattle.model.specs.Choice.{entries, values}
-use Rattle.model.specs.Computed.{keeps, firstChoice}
+use Rattle.theory.proofs.ListLaws.{filter-all}
+use Rattle.model.specs.Choice.{entries, values, keepsTies, fillings, choices}
+use Rattle.model.specs.Computed.{keeps, first, firstChoice}
 use Rattle.model.proofs.SettlingOrder.{settle, try, settle-first, settle-cons, skip, hit}
 use Rattle.arbiter.specs.Arbiter.{arbiter}
 
@@ -61,10 +62,15 @@ none-0 = settle-cons states after₂ (λ c. keeps arbiter (0 ∷ c)) ∙ skip 0 
 some-4 : behind₁ 4 ≡ some (drop 1 choiceA)
 some-4 = settle-cons states after₂ (λ c. keeps arbiter (4 ∷ c)) ∙ skip 0 (1 ∷ []) (behind₂ 4) none-4-0 ∙ hit 1 [] (behind₂ 4) _ some-4-1
 
+no-ties : choices (arbiter .architecture) ≡ fillings (entries (arbiter .architecture))
+unfolding choices keepsTies arbiter
+no-ties = filter-all (keepsTies (arbiter .architecture)) (fillings (entries (arbiter .architecture))) (λ c. refl)
+
 pub first-is-A : firstChoice arbiter ≡ some choiceA
 unfolding firstChoice
 first-is-A =
-    sym (settle-first (entries (arbiter .architecture)) (keeps arbiter))
+    ap (first (keeps arbiter)) no-ties
+    ∙ sym (settle-first (entries (arbiter .architecture)) (keeps arbiter))
     ∙ ap (λ (vss : List (List ℕ)). settle vss (keeps arbiter)) all-values
     ∙ settle-cons masks after₁ (keeps arbiter)
     ∙ skip 0 (4 ∷ 8 ∷ 12 ∷ []) behind₁ none-0

@@ -1,7 +1,7 @@
--- The processes of three arrays are those that an architecture has, one at a time: what each adds to the entries, the rows and the composed states,
+-- The processes of three arrays, and the ties of two, are those that an architecture has, one at a time: what each adds to the entries, the rows and the composed states,
 -- and the bounds that a proper architecture sets.
 use mathlib.Core.Path.{_≡_, refl, sym, ap, ap₂, _∙_}
-use mathlib.Core.List.{List, [], _∷_, _++_}
+use mathlib.Core.List.{List, [], _∷_, _++_, List·Memᴰ}
 use Prim.Native.Nat.{ℕ, zero, suc, _+_, _-_, _*_, _^_, _<_, _≤_}
 use native.Mathlib.Numerals.{add-one}
 use native.Mathlib.Nat.{mul-le-mul, suc-mul, mul-le-mul-right, mul-comm, pow-suc, pow-le-pow-right}
@@ -18,7 +18,7 @@ use Rattle.model.proofs.FitsTest.{row-length}
 use Rattle.model.proofs.ComposedNumbers.{times-length}
 use Rattle.model.proofs.EntriesBound.{row-few}
 use Rattle.architecture.specs.declared.Architecture.{Architecture}
-use Rattle.architecture.specs.Struct.{processOf, processesOf, processIn, firstIn, processesIn, architectureOf, IsProper, entriesOf}
+use Rattle.architecture.specs.Struct.{processOf, processesOf, processIn, firstIn, processesIn, tieOf, tiesOf, architectureOf, IsProper, entriesOf}
 
 -- ---- the entries of processes
 pub rows-length : (ps : List Process) → length (rows ps) ≡ entriesOf ps
@@ -83,6 +83,34 @@ processes-more n i o b x y z hi ho hb =
     before : (k : ℕ) → k < n → processOf (set i n x) (set o n y) (set b n z) k ≡ processOf i o b k
     before k h = let ne : k ≡ n → ⊥ = λ e. omega arith in rw (getD-set-other i n k x 0 ne, getD-set-other o n k y 0 ne, getD-set-other b n k z 0 ne)
 
+-- ---- the ties of two arrays
+ties-grow : (l r : List ℕ) → Grows (tieOf l r) (λ n. tiesOf n l r)
+unfolding tiesOf
+ties-grow l r = record { none = refl; more = λ n. refl }
+
+pub ties-length : (n : ℕ) (l r : List ℕ) → length (tiesOf n l r) ≡ n
+ties-length n l r = grown-length (ties-grow l r) n
+
+-- from k on, and from k + 1 on
+pub tie-next : (l r : List ℕ) (n k : ℕ) → k < n → drop k (tiesOf n l r) ≡ tieOf l r k ∷ drop (k + 1) (tiesOf n l r)
+tie-next l r = grown-next (ties-grow l r)
+
+pub ties-end : (l r : List ℕ) (n : ℕ) → drop n (tiesOf n l r) ≡ []
+ties-end l r = grown-end (ties-grow l r)
+
+-- tie k is one of them
+pub tie-has : (l r : List ℕ) (n k : ℕ) → k < n → List·Memᴰ (tieOf l r k) (tiesOf n l r)
+tie-has l r = grown-has (ties-grow l r)
+
+-- a store at n leaves the entries before it
+pub ties-more : (n : ℕ) (l r : List ℕ) (x y : ℕ) → n < length l → n < length r → tiesOf (n + 1) (set l n x) (set r n y) ≡ tiesOf n l r ++ (record { left = x; right = y } ∷ [])
+unfolding tiesOf
+ties-more n l r x y hl hr =
+    rw (add-one n, grown-same (ties-grow (set l n x) (set r n y)) (ties-grow l r) n before, getD-set-same l n x 0 hl, getD-set-same r n y 0 hr)
+  where
+    before : (k : ℕ) → k < n → tieOf (set l n x) (set r n y) k ≡ tieOf l r k
+    before k h = let ne : k ≡ n → ⊥ = λ e. omega arith in rw (getD-set-other l n k x 0 ne, getD-set-other r n k y 0 ne)
+
 -- ---- process j's part of what is made of all, from j on
 module _ (i o b : List ℕ) (n j : ℕ) (h : j < n) where
   entries-turn : entriesOf (drop j (processesOf n i o b)) ≡ processLength (processOf i o b j) + entriesOf (drop (j + 1) (processesOf n i o b))
@@ -119,6 +147,11 @@ module _ (i o b : List ℕ) (j : ℕ) where
 pub count-is : (a : Architecture) → length (architectureOf a .processes) ≡ a .processes
 unfolding architectureOf
 count-is a = processes-length (a .processes) (a .inputs) (a .outputs) (a .bounds)
+
+-- and how many ties
+pub ties-count : (a : Architecture) → length (architectureOf a .ties) ≡ a .ties
+unfolding architectureOf
+ties-count a = ties-length (a .ties) (a .lefts) (a .rights)
 
 -- ---- what is known of a proper architecture, by the number of a process
 pub record Facts (a : Architecture) : Type 0 where

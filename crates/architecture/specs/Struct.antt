@@ -4,7 +4,7 @@ use mathlib.Core.List.{List, [], _∷_, _++_}
 use Prim.Native.Nat.{ℕ, zero, suc, _+_, _≤_}
 use lib.ListN.{length, getD}
 use Rattle.model.specs.Sheet as model
-use Rattle.model.specs.Sheet.{Process, ProperArchitecture}
+use Rattle.model.specs.Sheet.{Process, Tie, ProperArchitecture}
 use Rattle.model.specs.Compose.{processLength}
 use Rattle.architecture.specs.declared.Architecture.{Architecture}
 
@@ -29,17 +29,33 @@ firstIn a n = processesOf n (a .inputs) (a .outputs) (a .bounds)
 abbrev pub processesIn : Architecture → List Process
 processesIn a = firstIn a (a .processes)
 
+-- entry k of the two arrays of process numbers, as a tie
+abbrev pub tieOf : List ℕ → List ℕ → ℕ → Tie
+tieOf l r k = record { left = getD l k 0; right = getD r k 0 }
+
+-- the first n entries, as ties
+unfoldable pub tiesOf : ℕ → List ℕ → List ℕ → List Tie
+tiesOf zero l r = []
+tiesOf (suc n) l r = tiesOf n l r ++ (tieOf l r n ∷ [])
+
+-- all ties
+abbrev pub tiesIn : Architecture → List Tie
+tiesIn a = tiesOf (a .ties) (a .lefts) (a .rights)
+
 -- the architecture of the struct
 unfoldable pub architectureOf : Architecture → model.Architecture
-unfolding processesOf
-architectureOf a = record { variables = a .variables; environment = a .environment; root = a .root; processes = processesIn a }
+unfolding processesOf tiesOf
+architectureOf a = record { variables = a .variables; environment = a .environment; root = a .root; processes = processesIn a; ties = tiesIn a }
 
--- the struct's arrays are whole, and its count is one of their lengths
+-- the struct's arrays are whole, and its counts are at most their lengths
 pub record Arrays (a : Architecture) : Type 0 where
   pub few-processes : a .processes ≤ 4
   pub inputs-long : length (a .inputs) ≡ 4
   pub outputs-long : length (a .outputs) ≡ 4
   pub bounds-long : length (a .bounds) ≡ 4
+  pub few-ties : a .ties ≤ 3
+  pub lefts-long : length (a .lefts) ≡ 3
+  pub rights-long : length (a .rights) ≡ 3
 
 -- the struct holds a proper architecture
 pub record IsProper (a : Architecture) : Type 0 where

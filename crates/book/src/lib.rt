@@ -36,7 +36,7 @@ pub fn write_for(a: Architecture, tables: &[u8; 272], book: &mut [u8]) -> Reply
     ensures { λ r. ⌜ r ≡ wrote (writtenFor (architectureOf a) (now (tables .entry)) (now (book .entry))) (now (book .entry)) .answer ⌝ }
     ensures { λ _. ⌜ now (book .exit) ≡ wrote (writtenFor (architectureOf a) (now (tables .entry)) (now (book .entry))) (now (book .entry)) .book ⌝ }
 {
-    if choice::entry_fault(a, tables) {
+    if ties::entry_fault(a, tables) {
         return Reply::Refused(Refusal::BadEntry);
     }
     let mut slots = [0u16; 338];
@@ -64,7 +64,7 @@ fn fitting(a: Architecture, tables: [u8; 272]) -> TablesRead
     requires { ⌜ length tables ≡ 272 ⌝ }
     ensures { λ r. ⌜ afterRead r ≡ fittingBy (architectureOf a) tables ⌝ }
 {
-    if choice::entry_fault(a, &tables) {
+    if ties::entry_fault(a, &tables) {
         return unread(Refusal::BadEntry);
     }
     TablesRead {

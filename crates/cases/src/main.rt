@@ -1,4 +1,6 @@
 // Runs every bench case through the public calls, and prints what each call answers and writes.
+ghost use Prim.Native.Nat.{_<_};
+
 mod calls;
 mod print;
 mod sheets;
@@ -15,16 +17,33 @@ use sheets::BOOK_A;
 use sheets::BOOK_D;
 use sheets::BOOK_E;
 use sheets::BOOK_J;
+use sheets::BOOK_S;
+use sheets::BOOK_S_BROKEN;
 use sheets::BOUND;
 use sheets::CASE_E;
 use sheets::CASE_F;
 use sheets::CASE_H;
 use sheets::CASE_J;
 use sheets::CASE_J_THIRD;
+use sheets::CASE_S;
+use sheets::CASE_S_NONE;
+use sheets::CASE_S_UNTIED;
+use sheets::CASE_U;
+use sheets::CASE_U_JOINED;
+use sheets::FOURTH_TIE;
 use sheets::KIND;
 use sheets::KIND_F;
+use sheets::LAST;
+use sheets::LEFT;
 use sheets::OFF;
 use sheets::REJECTING;
+use sheets::RIGHT;
+use sheets::SECOND_BOUND_S;
+use sheets::SECOND_INPUTS;
+use sheets::SECOND_OUTPUTS;
+use sheets::TIE_CUT_OFF;
+use sheets::TIE_FIRST;
+use sheets::TIE_THEN_PROCESS;
 use sheets::bounded;
 use sheets::edges_then;
 use sheets::waiting_unless;
@@ -153,6 +172,52 @@ fn edges() {
     check_front(b"65 edges, the last cut off", &ex, 402);
 }
 
+// Tied masks are one when packed: 05 and 0A. Without the tie there are lower ones, and with one edge more none that are tied.
+fn case_s() {
+    let sheet = CASE_S;
+    find(b"S", &sheet, 14, 2);
+    find(b"S untied", &CASE_S_UNTIED, 14, 2);
+    find(b"S off 04", &CASE_S_NONE, 14, 2);
+    annotate(b"S 01, 02", &sheet, &BOOK_S, 2);
+    let mut broken = BOOK_S_BROKEN;
+    annotate(b"S 01, 08", &sheet, &broken, 2);
+    judge(b"S 01, 08", &sheet, &broken, &[]);
+    part(b"S 01, 08", &sheet, &broken, 0);
+    part(b"S 01, 08", &sheet, &broken, 2);
+    broken[LAST] = b'O';
+    annotate(b"S 01, 08, last byte 4F", &sheet, &broken, 2);
+}
+
+// Two pairs of tied processes, and all four in one.
+fn case_u() {
+    find(b"U", &CASE_U, 50, 48);
+    find(b"U joined", &CASE_U_JOINED, 50, 48);
+}
+
+// S with one byte changed. Where process 1 sets one variable, another has no owner: the tie comes first.
+fn check_tie(case: &[u8], at: usize, byte: u8)
+    requires { ⌜ at < 51 ⌝ }
+{
+    let mut sheet = CASE_S;
+    sheet[at] = byte;
+    check(case, &sheet);
+}
+
+// What is no tie, and where none may stand.
+fn ties() {
+    check(b"SY", &CASE_S);
+    check_tie(b"SY 2 0", LEFT, 2);
+    check_tie(b"SY 1 2", RIGHT, 2);
+    check_tie(b"SY 1 1", RIGHT, 1);
+    check_tie(b"SY of bounds 1, 2", SECOND_BOUND_S, 2);
+    check_tie(b"SY of inputs 0, 1", SECOND_INPUTS, 0x01);
+    check_tie(b"SY of outputs 2, 1", SECOND_OUTPUTS, 0x02);
+    check(b"SY before any PR", &TIE_FIRST);
+    check(b"PR behind an SY", &TIE_THEN_PROCESS);
+    check(b"fourth SY", &FOURTH_TIE);
+    check(b"SY cut off", &TIE_CUT_OFF);
+}
+
 fn main() {
     case_a();
     case_a_unless();
@@ -167,4 +232,7 @@ fn main() {
     case_j();
     case_k();
     edges();
+    case_s();
+    case_u();
+    ties();
 }

@@ -126,3 +126,58 @@ pub const CASE_J_THIRD: [u8; 28] = *b"\
 pub const BOOK_J: [u8; 50] = *b"\
     TB\x00\x00\x00\x00TB\x00\x01\x00\x00TB\x00\x02\x00\x00TB\x00\x03\x00\x00\
     TB\x01\x00\x00\x00TB\x01\x01\x00\x00TB\x01\x02\x00\x00TB\x01\x03\x00\x00EN";
+
+// ---- ties
+// Two tied processes with the outputs 05 and 0A: variables 0 and 3 are to be on.
+pub const CASE_S: [u8; 51] = *b"\
+    AR\x04\x00\x00PR\x00\x05\x01PR\x00\x0A\x01SY\x01\x00AU\x02\x00\x02\x00\
+    ED\x00\x00\x00\x00ED\x00\x01\x00\x01ED\x00\x01\x00\x08ED\x01\x01\x00\x00EN";
+
+// S without its tie.
+pub const CASE_S_UNTIED: [u8; 47] = *b"\
+    AR\x04\x00\x00PR\x00\x05\x01PR\x00\x0A\x01AU\x02\x00\x02\x00\
+    ED\x00\x00\x00\x00ED\x00\x01\x00\x01ED\x00\x01\x00\x08ED\x01\x01\x00\x00EN";
+
+// S, and variable 2 is to be off: with 0 on and 2 off, the other mask has 1 on and 3 off.
+pub const CASE_S_NONE: [u8; 57] = *b"\
+    AR\x04\x00\x00PR\x00\x05\x01PR\x00\x0A\x01SY\x01\x00AU\x02\x00\x02\x00\
+    ED\x00\x00\x00\x00ED\x00\x01\x00\x01ED\x00\x01\x00\x08ED\x00\x01\x04\x00ED\x01\x01\x00\x00EN";
+
+// The two process numbers of S's tie; the inputs, outputs and bound of its process 1.
+pub const LEFT: usize = 17;
+
+pub const RIGHT: usize = 18;
+
+pub const SECOND_INPUTS: usize = 12;
+
+pub const SECOND_OUTPUTS: usize = 13;
+
+pub const SECOND_BOUND_S: usize = 14;
+
+// A book of S with one table, and one with two.
+pub const BOOK_S: [u8; 14] = *b"TB\x00\x00\x01\x00TB\x01\x00\x02\x00EN";
+
+pub const BOOK_S_BROKEN: [u8; 14] = *b"TB\x00\x00\x01\x00TB\x01\x00\x08\x00EN";
+
+// The last byte of S's books.
+pub const LAST: usize = 13;
+
+// Two pairs of tied processes: variable 0 is to be on at some time, and never variables 0 and 2 at once.
+pub const CASE_U: [u8; 71] = *b"\
+    AR\x04\x00\x00PR\x00\x01\x02PR\x00\x02\x02PR\x00\x04\x02PR\x00\x08\x02SY\x02\x03SY\x00\x01AU\x03\x00\x06\x00\
+    ED\x00\x00\x00\x00ED\x00\x01\x00\x01ED\x01\x01\x00\x01ED\x00\x02\x05\x00ED\x02\x02\x00\x00EN";
+
+// U, and a third tie joins the pairs.
+pub const CASE_U_JOINED: [u8; 75] = *b"\
+    AR\x04\x00\x00PR\x00\x01\x02PR\x00\x02\x02PR\x00\x04\x02PR\x00\x08\x02SY\x02\x03SY\x00\x01SY\x03\x01AU\x03\x00\x06\x00\
+    ED\x00\x00\x00\x00ED\x00\x01\x00\x01ED\x01\x01\x00\x01ED\x00\x02\x05\x00ED\x02\x02\x00\x00EN";
+
+// An SY before any PR, a PR behind an SY, and a fourth SY: each ends with the mark. And an SY of a process that there is not, cut off.
+pub const TIE_FIRST: [u8; 7] = *b"AR\x00\x00\x00SY";
+
+pub const TIE_THEN_PROCESS: [u8; 21] = *b"AR\x04\x00\x00PR\x00\x05\x01PR\x00\x0A\x01SY\x01\x00PR";
+
+pub const FOURTH_TIE: [u8; 29] =
+    *b"AR\x04\x00\x00PR\x00\x05\x01PR\x00\x0A\x01SY\x01\x00SY\x01\x00SY\x00\x01SY";
+
+pub const TIE_CUT_OFF: [u8; 18] = *b"AR\x04\x00\x00PR\x00\x05\x01PR\x00\x0A\x01SY\x07";

@@ -1,4 +1,4 @@
--- Where the sheet is refused with 2 to 7, the bytes up to the position that is told end with the first faulty record. A front that is faulty begins with a
+-- Where the sheet is refused with 2 to 7 or 15, the bytes up to the position that is told end with the first faulty record. A front that is faulty begins with a
 -- faulty record; no shorter front is faulty, so that this record is all of it; and it decides the refusal, whatever follows.
 use mathlib.Core.Path.{_≡_, refl, sym, ap, _∙_, subst}
 use mathlib.Core.Bool.{true, true≢false}

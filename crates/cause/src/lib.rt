@@ -50,8 +50,11 @@ fn say_cause(refusal: Refusal) {
         Refusal::BookBufferTooShort => say(b"the book buffer is too short"),
         Refusal::AnnotationBufferTooShort => say(b"the annotation is too short"),
         Refusal::BadBook => say(b"the book has the wrong length, or a byte other than the one due"),
-        Refusal::BadEntry => say(b"an entry has a value that it may not have"),
+        Refusal::BadEntry => say(b"an entry has a value that it may not have, or a tie is broken"),
         Refusal::NoSuchProcess => say(b"there is no process of that number"),
+        Refusal::BadTie => say(
+            b"an SY names a process that there is not, one process twice, or two that do not match",
+        ),
     }
 }
 
@@ -67,9 +70,17 @@ fn say_place(number: u32, sheet: &[u8]) {
     io::print_decimal(STDERR_FILENO, fault_end(sheet) as u64);
 }
 
+// The number of a fault of the sheet itself.
+fn is_of_sheet(number: u32) -> bool {
+    if number == 15 {
+        return true;
+    }
+    number <= 7
+}
+
 // The argument that names the file at fault: sheet, book and annotation are the first, the second and the third of every program.
 fn culprit(number: u32) -> usize {
-    if number <= 7 {
+    if is_of_sheet(number) {
         return 1;
     }
     if number == 9 {
@@ -84,7 +95,7 @@ pub fn explain(refusal: Refusal, sheet: &[u8]) {
     input::print_name(culprit(number));
     say(b": ");
     say_cause(refusal);
-    if number <= 7 {
+    if is_of_sheet(number) {
         say_place(number, sheet);
     }
     say(b"\n");

@@ -4,7 +4,6 @@ ghost use mathlib.Core.Bool.{not};
 ghost use Prim.Native.Nat.{_+_, _*_, _<_, _≤_};
 ghost use lib.ListN.{length};
 ghost use Rattle.model.specs.Choice.{entries, may, fits};
-ghost use Rattle.model.specs.Book.{entryFault};
 ghost use Rattle.architecture.specs.Struct.{IsProper, architectureOf};
 ghost use Rattle.append.specs.Appends.{Appends};
 ghost use Rattle.choice.specs.Kinds.{kindOf, kindsOf, rowCodes, processCodes};
@@ -85,7 +84,7 @@ pub fn may_be(kind: u16, value: u8) -> bool
 }
 
 // One of the first n entries has a value that it may not have.
-fn is_misfit(kinds: &[u16], n: usize, tables: &[u8]) -> bool
+pub fn is_misfit(kinds: &[u16], n: usize, tables: &[u8]) -> bool
     requires { ⌜ (n ≤ length (now kinds)) × (n ≤ length (now tables)) ⌝ }
     ensures { λ r. ⌜ r ≡ not (fits (kindsOf (now (kinds .entry)) n) (now (tables .entry))) ⌝ }
 {
@@ -97,14 +96,4 @@ fn is_misfit(kinds: &[u16], n: usize, tables: &[u8]) -> bool
         k += 1;
     }
     false
-}
-
-// 11: an entry of the tables has a value that it may not have.
-pub fn entry_fault(a: Architecture, tables: &[u8; 272]) -> bool
-    requires { ⌜ IsProper a ⌝ }
-    ensures { λ r. ⌜ r ≡ entryFault (architectureOf a) (now (tables .entry)) ⌝ }
-{
-    let mut kinds = [0u16; 272];
-    let n = fill_kinds(&mut kinds, a);
-    is_misfit(&kinds, n, tables)
 }

@@ -12,8 +12,8 @@ use borrow.Author.Tests.{eq-eqb, ne-eqb, eqb-true}
 use Rattle.model.specs.Mask.{within, share, count, packed, pack}
 use Rattle.model.specs.Sheet.{Edge}
 use Rattle.model.specs.RunGraph.{meets}
-use Rattle.drawing.specs.Unpack.{unpacked, unpack}
-use Rattle.drawing.proofs.Unpacked.{low, low-digit, high-digits, unpacked-le}
+use Rattle.ties.specs.Unpack.{unpacked, unpack}
+use Rattle.ties.proofs.Unpacked.{low, low-digit, high-digits, unpacked-le}
 
 -- the values v have all of `on` and none of `off`
 record Met (on off v : ℕ) : Type 0 where

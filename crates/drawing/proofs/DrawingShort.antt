@@ -14,9 +14,9 @@ use Rattle.template.proofs.FilledShort.{longest, filled-short}
 use Rattle.text.specs.Rows.{rowOf}
 use Rattle.text.proofs.RowsShort.{from-short, processes-short, edges-short}
 use Rattle.text.proofs.TextShort.{row-bytes, row-short}
+use Rattle.ties.proofs.Unpacked.{unpack-le}
 use Rattle.drawing.specs.Drawing as spec
 use Rattle.drawing.specs.Drawing.{stateText, edLine, exLine, automatonText, conditionText, conditionsText, labelText, moveText, rowText, tableText, startText, sheetText, bookText}
-use Rattle.drawing.proofs.Unpacked.{unpack-le}
 
 -- ---- the automaton
 state-short : (q : ℕ) (rejecting : Bool) → q < 1000 → length (stateText q rejecting) ≤ 48

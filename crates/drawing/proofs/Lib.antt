@@ -1,5 +1,4 @@
 -- the laws that the proofs of the functions cite
-pub mod Unpacked
 pub mod ConditionMet
 pub mod MovesInTurn
 pub mod DrawingShort

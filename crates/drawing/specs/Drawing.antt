@@ -10,7 +10,7 @@ use Rattle.model.specs.Mask.{if, bit}
 use Rattle.model.specs.Sheet.{Process, Automaton, Sheet}
 use Rattle.template.specs.Template.{filled}
 use Rattle.text.specs.Rows.{eachFrom, eachRow, eachProcess, edgesText}
-use Rattle.drawing.specs.Unpack.{unpack}
+use Rattle.ties.specs.Unpack.{unpack}
 
 -- ---- the automaton: its states are q0, q1, ..
 -- a state; a rejecting one has two circles

@@ -1,2 +1,1 @@
-pub mod Unpack
 pub mod Drawing

@@ -1,7 +1,7 @@
 // What the drawing program prints: a sheet, and with a book its tables, as one graph for Graphviz.
 ghost use mathlib.Core.Path.{_≡_};
 ghost use mathlib.Core.List.{[]};
-ghost use Prim.Native.Nat.{_+_, _%_, _<_, _≤_};
+ghost use Prim.Native.Nat.{_+_, _<_, _≤_};
 ghost use lib.Dec.{eqb};
 ghost use lib.ListN.{length};
 ghost use Rattle.model.specs.Mask.{if};
@@ -11,7 +11,6 @@ ghost use Rattle.automaton.specs.Struct.{Arrays, automatonOf};
 ghost use Rattle.sheet.specs.Struct.{IsProper as Proper, sheetOf};
 ghost use Rattle.append.specs.Appends.{Appends};
 ghost use Rattle.template.specs.Holds.{Holds};
-ghost use Rattle.drawing.specs.Unpack as inputs;
 ghost use Rattle.drawing.specs.Drawing as spec;
 use architecture::Architecture;
 use automaton::Automaton;
@@ -87,39 +86,12 @@ fn put_automaton(text: &mut [u8], at: usize, u: Automaton) -> usize
 }
 
 // ---- the moves of a state
-// The lowest bit.
-fn lowest(mask: u8) -> usize
-    ensures { λ r. ⌜ r ≡ mask % 2 ⌝ }
-{
-    (mask % 2) as usize
-}
-
-// The inputs that an index stands for.
-fn unpack(mask: u8, index: usize) -> u8
-    ensures { λ r. ⌜ r ≡ inputs.unpack mask index ⌝ }
-{
-    let mut m = mask;
-    let mut w = index;
-    let mut v: usize = 0;
-    let mut weight: usize = 1;
-    let mut i: usize = 0;
-    while i < 8 {
-        let has = lowest(m);
-        v += weight * (has * (w % 2));
-        weight *= 2;
-        w /= 1 + has;
-        m >>= 1;
-        i += 1;
-    }
-    v as u8
-}
-
 // The inputs of an index, on a line of their own.
 fn put_condition(text: &mut [u8], at: usize, mask: u8, index: usize) -> usize
     requires { ⌜ at + length (spec.conditionText mask index) ≤ length (now text) ⌝ }
     ensures { λ r. ⌜ Appends (now (text .entry)) at (spec.conditionText mask index) r (now (text .exit)) ⌝ }
 {
-    let on = unpack(mask, index) as usize;
+    let on = ties::unpack(mask, index) as usize;
     put_filled(text, at, b"?\\l", &[on, mask as usize - on])
 }
 

@@ -13,9 +13,9 @@ use Rattle.model.specs.declared.Outcome.{Outcome}
 use Rattle.model.specs.Reading as model
 use Rattle.model.specs.Sheet.{Architecture, Sheet, ProperSheet}
 use Rattle.model.specs.Reading.{refused, proper, refuse_when_else_, _then_, readSheet}
-use Rattle.model.specs.Choice.{entries, IsChoice}
+use Rattle.model.specs.Choice.{entries, IsTables, IsChoice}
 use Rattle.model.specs.RunGraph.{vertices}
-use Rattle.model.specs.Computed.{annotation, keeps, firstChoice}
+use Rattle.model.specs.Computed.{annotation, firstChoice}
 use Rattle.model.specs.Book.{form, bookLength, bookOf, readBook}
 use Rattle.model.specs.Calls.{AfterFind, AfterRead, front, bookShort, annotationShort, roomToFind, findSheet, findChoice, findIn, findOf, tablesOf, gave}
 use Rattle.model.specs.Numbers.{number}
@@ -23,7 +23,7 @@ use Rattle.model.proofs.ProperSheet.{passes, goes-on, sheet-proper}
 use Rattle.model.proofs.Sizes.{book-short}
 use Rattle.model.proofs.BookInverse.{filled-length}
 use Rattle.model.proofs.BookRead.{choice-read}
-use Rattle.model.proofs.FirstInOrder.{first-some, entries-small}
+use Rattle.model.proofs.FirstUnique.{found-some}
 use Rattle.model.proofs.AnnotationExact.{annotation-whole}
 use Rattle.sheet.specs.declared.Reading.{Reading}
 use Rattle.sheet.specs.Struct.{sheetOf, readingOf}
@@ -53,10 +53,6 @@ front-is : (new old : List ℕ) (n : ℕ) → length new ≡ n → take n (front
 unfolding front
 front-is new old n e = take-at new (drop (length new) old) n e
 
-first-fits : (s : Sheet) (c : List ℕ) → ProperSheet s → firstChoice s ≡ some c → IsChoice (s .architecture) c
-unfolding firstChoice
-first-fits s c g e = first-some (entries (s .architecture)) (keeps s) c (entries-small (s .architecture) (g .architecture)) e .fitting
-
 nothing≢tables : ¬ (Outcome.Nothing ≡ Outcome.Tables)
 nothing≢tables e = let z : _≡_ {A = ℕ} 0 1 = cc in omega arith
 
@@ -69,7 +65,7 @@ chose s old-book old-ann book ann g f = by (firstChoice s) refl f
     by (some c) e f = record {
       choice = c;
       first = e;
-      is-choice = first-fits s c g e;
+      is-choice = found-some s g c e .is-choice;
       book-is = ap (λ (a : AfterFind). take (bookLength (s .architecture)) (a .book)) (sym f)
           ∙ front-is (bookOf (s .architecture) c) old-book (bookLength (s .architecture)) (book-length (s .architecture) c);
       annotation-is = ap (λ (a : AfterFind). take (vertices s) (a .annotation)) (sym f) ∙ front-is (annotation s c) old-ann (vertices s) (annotation-whole s c);
@@ -181,10 +177,10 @@ module _ (s : Sheet) (book ann : List ℕ) (h : Chose s book ann) where
         let read : readBook (s .architecture) (take n book) ≡ proper (h .choice) = choice-read (s .architecture) (take n book) (h .choice) (h .is-choice) (sym same) in
         ap (λ (x : AfterRead). x .tables) (q ∙ ap gave read)
 
-    pub are-choice : IsChoice (s .architecture) (take (length (entries (s .architecture))) (r .tables))
-    are-choice = rw tables-are (subst (IsChoice (s .architecture)) (sym (chosen-tables (s .architecture) (h .choice) (h .is-choice))) (h .is-choice))
+    pub are-tables : IsTables (s .architecture) (take (length (entries (s .architecture))) (r .tables))
+    are-tables = rw tables-are (subst (IsTables (s .architecture)) (sym (chosen-tables (s .architecture) (h .choice) (h .is-choice .tables))) (h .is-choice .tables))
 
     pub text-is : (v : ℕ) → v ≡ vertices s → textOf (s .architecture) (r .tables) (take v ann) ≡ choiceText s (firstChoice s)
     unfolding choiceText tablesOf front
     text-is v ev =
-        rw (tables-are, ev, h .annotation-is, h .first) (text-front (h .choice) (drop (length (h .choice)) (replicate 272 0)) (s .architecture) (annotation s (h .choice)) (h .is-choice))
+        rw (tables-are, ev, h .annotation-is, h .first) (text-front (h .choice) (drop (length (h .choice)) (replicate 272 0)) (s .architecture) (annotation s (h .choice)) (h .is-choice .tables))

@@ -6,7 +6,7 @@ use Rattle.model.specs.declared.Refusal.{Refusal}
 use Rattle.model.specs.declared.Reply.{Reply}
 use Rattle.model.specs.Sheet.{Architecture}
 use Rattle.model.specs.Reading.{refused, proper}
-use Rattle.model.specs.Choice.{IsChoice, chosen}
+use Rattle.model.specs.Choice.{IsTables, chosen}
 use Rattle.model.specs.Book.{readBook}
 use Rattle.model.specs.Calls.{AfterRead, tablesOf, gave}
 use Rattle.model.proofs.BookRead.{read-choice}
@@ -17,7 +17,7 @@ use Rattle.graph.proofs.ChoiceAtFront.{chosen-tables}
 
 -- the choice of the book is at the front of the tables
 pub record Chose (a : Architecture) (book tables : List ℕ) : Type 0 where
-  pub is-choice : IsChoice a (chosen a tables)
+  pub is-choice : IsTables a (chosen a tables)
   pub is-read : readBook a book ≡ proper (chosen a tables)
 
 module _ (a : Architecture) (book : List ℕ) (r : TablesRead) (after : afterRead r ≡ gave (readBook a book)) where
@@ -30,7 +30,7 @@ module _ (a : Architecture) (book : List ℕ) (r : TablesRead) (after : afterRea
   unfolding gave
   was-read h =
       let d = gave-done (readBook a book) (sym (ap (λ (x : AfterRead). x .answer) after) ∙ h) in
-      let choice : IsChoice a (d .0) = read-choice a book (d .0) (d .1) .0 in
+      let choice : IsTables a (d .0) = read-choice a book (d .0) (d .1) .0 .tables in
       let tables : r .tables ≡ tablesOf (d .0) = ap (λ (x : AfterRead). x .tables) (after ∙ ap gave (d .1)) in
       let same : chosen a (r .tables) ≡ d .0 = ap (chosen a) tables ∙ chosen-tables a (d .0) choice in
-      record { is-choice = subst (IsChoice a) (sym same) choice; is-read = d .1 ∙ ap (λ (c : List ℕ). proper c) (sym same) }
+      record { is-choice = subst (IsTables a) (sym same) choice; is-read = d .1 ∙ ap (λ (c : List ℕ). proper c) (sym same) }

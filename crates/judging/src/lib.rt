@@ -2,7 +2,7 @@
 ghost use mathlib.Core.Path.{_≡_};
 ghost use Prim.Native.Nat.{_≤_};
 ghost use lib.ListN.{length, take};
-ghost use Rattle.model.specs.Choice.{IsChoice, chosen};
+ghost use Rattle.model.specs.Choice.{IsTables, chosen};
 ghost use Rattle.model.specs.Calls.{front, roomFor, bookFor, judged, annotated};
 ghost use Rattle.architecture.specs.Struct.{architectureOf};
 ghost use Rattle.sheet.specs.Struct.{sheetOf, IsProper};
@@ -16,7 +16,7 @@ use sheet::Sheet;
 // Of the tables of a choice: is the annotation valid?
 fn judge_tables(sheet: Sheet, tables: &[u8], annotation: &[u16]) -> Verdict
     requires { ⌜ IsProper sheet ⌝ }
-    requires { ⌜ IsChoice (architectureOf (sheet .architecture)) (chosen (architectureOf (sheet .architecture)) (now tables)) ⌝ }
+    requires { ⌜ IsTables (architectureOf (sheet .architecture)) (chosen (architectureOf (sheet .architecture)) (now tables)) ⌝ }
     ensures { λ r. ⌜ r ≡ judged (roomFor (sheetOf sheet) (chosen (architectureOf (sheet .architecture)) (now (tables .entry))) (now (annotation .entry))) (now (annotation .entry)) ⌝ }
 {
     let mut targets = [0u16; 4096];
@@ -63,7 +63,7 @@ fn copy(annotation: &mut [u16], numbers: &[u16], n: usize)
 // Of the tables of a choice: their annotation, or `loop`.
 pub fn annotate_tables(sheet: Sheet, tables: &[u8], annotation: &mut [u16]) -> Verdict
     requires { ⌜ IsProper sheet ⌝ }
-    requires { ⌜ IsChoice (architectureOf (sheet .architecture)) (chosen (architectureOf (sheet .architecture)) (now tables)) ⌝ }
+    requires { ⌜ IsTables (architectureOf (sheet .architecture)) (chosen (architectureOf (sheet .architecture)) (now tables)) ⌝ }
     ensures { λ r. ⌜ r ≡ annotated (roomFor (sheetOf sheet) (chosen (architectureOf (sheet .architecture)) (now (tables .entry))) (now (annotation .entry))) (now (annotation .entry)) .answer ⌝ }
     ensures { λ _.
         ⌜ now (annotation .exit)

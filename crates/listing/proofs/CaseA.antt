@@ -2,15 +2,17 @@
 use mathlib.Core.Path.{_≡_, refl}
 use mathlib.Core.List.{List, _++_}
 use Prim.Native.Nat.{ℕ}
+use Rattle.theory.specs.Lists.{put, from}
 use Rattle.model.specs.Ascii.{ascii}
 use Rattle.model.specs.Mask.{if, count}
 use Rattle.model.specs.Reading.{proper, _then_, readSheet}
 use Rattle.model.specs.BenchCases.{sheetA}
 use Rattle.model.specs.Compose.{T, processLength}
-use Rattle.model.specs.Choice.{entries}
+use Rattle.model.specs.Choice.{rows, entries}
+use Rattle.ties.specs.Leaders.{joinAll, leaders}
 use Rattle.template.specs.Template as template
 use Rattle.text.specs.Rows.{eachProcess, edgesText}
-use Rattle.listing.specs.Listing.{twos, threes, total, showText}
+use Rattle.listing.specs.Listing.{tiesText, twos, threes, total, leading, showText}
 
 abbrev textA : List ℕ
 textA =
@@ -28,5 +30,5 @@ textA =
 
 pub shows-a : (readSheet (sheetA 2) then λ s. proper (showText s)) ≡ proper textA
 unfolding readSheet _then_ if count T processLength entries template.digit template.decimalIn template.decimal template.literal template.literals template.behind template.spaced
-    template.variables template.states template.part template.taken template.filled eachProcess edgesText twos threes total showText
+    template.variables template.states template.part template.taken template.filled eachProcess edgesText twos threes total from put leaders joinAll leading rows tiesText showText
 shows-a = refl

@@ -1,25 +1,30 @@
--- The number that is shown is that of the choices: an output mask has 2 values for each of its bits, and each bound has as many next states.
+-- The number that is shown is that of the choices: an output mask has 2 values for each of its bits, each bound has as many next states, and tied processes
+-- count once.
 use mathlib.Core.Path.{_≡_, refl, sym, ap, ap₂, _∙_}
 use mathlib.Core.Bool.{false}
 use mathlib.Core.Logic.{_⊎_, inl, inr}
-use mathlib.Core.List.{List, [], _∷_, map, List·Memᴰ, List·Memᴰ·head, List·Memᴰ·tail}
+use mathlib.Core.List.{List, [], _∷_, List·Memᴰ, List·Memᴰ·head, List·Memᴰ·tail}
 use Prim.Native.Nat.{ℕ, zero, suc, _+_, _*_, _/_, _%_, _^_, _<_, _≤_, min}
-use native.Mathlib.Nat.{pow-suc, suc-mul, mul-one, mul-mul-mul-comm}
+use native.Mathlib.Nat.{pow-suc, mul-one, mul-mul-mul-comm}
 use native.Mathlib.Omega.{arith}
 use native.Mathlib.Decide.{ℕ-discrete}
 use lib.Bits.{bitAnd, and-step}
 use lib.Count.{ones, ones-step}
 use lib.Dec.{eqb}
-use lib.ListN.{length, length-append, length-map}
+use lib.ListN.{length}
 use lib.Pow.{pow-add, pow-mono}
 use borrow.Author.Tests.{eq-eqb, ne-eqb}
 use Rattle.theory.specs.Lists.{put, filter, from, one}
 use Rattle.theory.proofs.ListLaws.{filter-length}
 use Rattle.model.specs.Mask.{if, within, count}
 use Rattle.model.specs.Sheet.{Architecture, ProperArchitecture}
-use Rattle.model.specs.Choice.{Entry, output, next, may, values, entries, each, choices}
+use Rattle.model.specs.Choice.{Entry, output, next, may, values, rows, entries, fillings, choices}
 use Rattle.model.proofs.EntryLaws.{entries-have}
-use Rattle.listing.specs.Listing.{twos, threes, total}
+use Rattle.ties.specs.Leaders.{entryLeaders}
+use Rattle.listing.specs.Listing.{twos, threes, total, leading, once}
+use Rattle.listing.proofs.EachCounted.{each-length}
+use Rattle.listing.proofs.LeadingRows.{leading-has, leading-rows}
+use Rattle.listing.proofs.TiedOnce.{choices-once}
 
 -- ---- an output mask: each of its bits doubles the values
 -- two tests that pass together
@@ -121,30 +126,27 @@ next-counted (suc (suc (suc zero))) l h = refl
 next-counted (suc (suc (suc (suc zero)))) l h = refl
 next-counted (suc (suc (suc (suc (suc b))))) l h = absurd (omega arith)
 
-each-length : (vs : List ℕ) (cs : List (List ℕ)) → length (each vs cs) ≡ length vs * length cs
-unfolding each
-each-length [] cs = omega arith
-each-length (v ∷ vs) cs =
-    omega (arith, length-append (map (λ c. v ∷ c) cs) (each vs cs), length-map cs (λ (c : List ℕ). v ∷ c), each-length vs cs, suc-mul (length vs) (length cs))
-
-choices-counted : (es : List Entry) → ((e : Entry) → List·Memᴰ e es → Counted e) → length (choices es) ≡ 2 ^ total twos es * 3 ^ total threes es
-unfolding choices total
-choices-counted [] h = refl
-choices-counted (e ∷ es) h =
+fillings-counted : (es : List Entry) → ((e : Entry) → List·Memᴰ e es → Counted e) → length (fillings es) ≡ 2 ^ total twos es * 3 ^ total threes es
+unfolding fillings total
+fillings-counted [] h = refl
+fillings-counted (e ∷ es) h =
     let a = twos e in
     let b = threes e in
     let c = total twos es in
     let d = total threes es in
-    each-length (values e) (choices es)
-    ∙ ap₂ (λ (x y : ℕ). x * y) (h e (List·Memᴰ·head refl)) (choices-counted es (λ f m. h f (List·Memᴰ·tail m)))
+    each-length (values e) (fillings es)
+    ∙ ap₂ (λ (x y : ℕ). x * y) (h e (List·Memᴰ·head refl)) (fillings-counted es (λ f m. h f (List·Memᴰ·tail m)))
     ∙ mul-mul-mul-comm (2 ^ a) (3 ^ b) (2 ^ c) (3 ^ d)
     ∙ ap₂ (λ (x y : ℕ). x * y) (sym (pow-add 2 a c)) (sym (pow-add 3 b d))
 
--- ---- of a proper architecture
-pub shown-choices : (a : Architecture) → ProperArchitecture a → length (choices (entries a)) ≡ 2 ^ total twos (entries a) * 3 ^ total threes (entries a)
+-- ---- of a proper architecture: tied processes once
+pub shown-choices : (a : Architecture) → ProperArchitecture a → length (choices a) ≡ 2 ^ total twos (rows (once a)) * 3 ^ total threes (rows (once a))
 shown-choices a g =
     let f = g .front in
     let known = pow-mono {i = a .variables} {j = 8} (f .few-variables) in
-    choices-counted (entries a) (entries-have Counted a (λ p m.
+    let each-counted = entries-have Counted a (λ p m.
     let own = f .processes-proper p m in
-    (output-counted (p .outputs) (omega (arith, known, own .outputs-known)), next-counted (p .bound) (own .some-state) (own .few-states))))
+    (output-counted (p .outputs) (omega (arith, known, own .outputs-known)), next-counted (p .bound) (own .some-state) (own .few-states))) in
+    choices-once a g
+    ∙ fillings-counted (leading (entryLeaders a) 0 (entries a)) (λ e m. each-counted e (leading-has (entryLeaders a) 0 (entries a) e m))
+    ∙ ap (λ (es : List Entry). 2 ^ total twos es * 3 ^ total threes es) (leading-rows a g)

@@ -4,18 +4,23 @@ use mathlib.Core.Bool.{Bool, true, false}
 use mathlib.Core.List.{List, [], _∷_, _++_, List·Memᴰ·head, List·Memᴰ·tail}
 use Prim.Native.Nat.{ℕ, zero, suc, _+_, _*_, _^_, _<_, _≤_}
 use native.Mathlib.Nat.{mul-le-mul, suc-mul}
+use native.Mathlib.Numerals.{add-one}
 use native.Mathlib.Omega.{arith}
 use lib.Count.{ones-le}
 use lib.Dec.{eqb}
-use lib.ListN.{length, drop, replicate}
+use lib.ListN.{length, getD, drop, replicate, drop-of-length-le}
 use lib.Pow.{pow-mono}
+use lib.Seq.{drop-cons}
+use Rattle.theory.specs.Lists.{put}
 use Rattle.model.specs.Mask.{if, count}
 use Rattle.model.specs.Sheet.{Process, ProperProcesses}
 use Rattle.model.specs.Choice.{Entry, output, next, row, times, rows}
-use Rattle.architecture.specs.Struct.{processIn, processesIn}
+use Rattle.architecture.specs.Struct.{IsProper, architectureOf, processIn, processesIn, tiesIn}
 use Rattle.architecture.specs.declared.Architecture.{Architecture}
-use Rattle.architecture.proofs.ProcessesOfArrays.{process-next}
-use Rattle.listing.specs.Listing.{twos, threes, total}
+use Rattle.architecture.proofs.ProcessesOfArrays.{processes-length, process-next, processes-end}
+use Rattle.ties.specs.Leaders.{leaders}
+use Rattle.ties.proofs.LeadersOfArrays.{lead}
+use Rattle.listing.specs.Listing.{twos, threes, total, leading, once}
 
 -- ---- few
 -- the exponents of one process
@@ -44,6 +49,21 @@ threes-few = record { of-output = λ m h. omega arith; of-next = λ b. by (eqb b
     by true = omega arith
     by false = omega arith
 
+-- ---- tied processes once
+-- those from process j on that lead themselves
+abbrev pub onceFrom : Architecture → ℕ → List Process
+onceFrom a j = leading (drop j (leaders (a .processes) (tiesIn a))) j (drop j (processesIn a))
+
+-- before the first
+pub once-all : (a : Architecture) → onceFrom a 0 ≡ once (architectureOf a)
+unfolding architectureOf
+once-all a = rw (processes-length (a .processes) (a .inputs) (a .outputs) (a .bounds))
+
+-- behind the last
+pub once-none : (a : Architecture) → IsProper a → (j : ℕ) → j ≡ a .processes → onceFrom a j ≡ []
+unfolding leading
+once-none a z j e = rw (e, processes-end (a .inputs) (a .outputs) (a .bounds) (a .processes), drop-of-length-le (leaders (a .processes) (tiesIn a)) {i = a .processes} (omega (arith, lead a z .long)))
+
 module _ (f : Entry → ℕ) where
   -- ---- of several entries
   total-parts : (es fs : List Entry) → total f (es ++ fs) ≡ total f es + total f fs
@@ -69,14 +89,18 @@ module _ (f : Entry → ℕ) where
   unfolding row total
   process-total p = total-times (p .bound) (row p) ∙ ap (λ (n : ℕ). p .bound * (f (output (p .outputs)) + n)) (total-same (2 ^ count (p .inputs)) (next (p .bound)))
 
-  -- process j, and those after it
-  pub total-turn : (a : Architecture) (j : ℕ) → j < a .processes
-      → total f (rows (drop j (processesIn a))) ≡ processTotal (processIn a j) + total f (rows (drop (j + 1) (processesIn a)))
-  unfolding rows
-  total-turn a j h =
-      let p = processIn a j in
-      let rest = rows (drop (j + 1) (processesIn a)) in
-      rw (process-next (a .inputs) (a .outputs) (a .bounds) (a .processes) j h) (omega (arith, total-parts (times (p .bound) (row p)) rest, process-total p))
+  -- process j, if it leads itself, and those after it that do
+  pub total-turn : (a : Architecture) → IsProper a → (j : ℕ) → j < a .processes
+      → total f (rows (onceFrom a j)) ≡ if (eqb (getD (leaders (a .processes) (tiesIn a)) j 0) j) (processTotal (processIn a j)) 0 + total f (rows (onceFrom a (j + 1)))
+  unfolding leading rows put if
+  total-turn a z j h =
+      let ls = leaders (a .processes) (tiesIn a) in
+      rw (process-next (a .inputs) (a .outputs) (a .bounds) (a .processes) j h, add-one j, drop-cons ls j 0 (omega (arith, lead a z .long)))
+      (by (eqb (getD ls j 0) j) (processIn a j) (leading (drop (suc j) ls) (suc j) (drop (suc j) (processesIn a))))
+    where
+      by : (b : Bool) (p : Process) (ps : List Process) → total f (rows (put b p ps)) ≡ if b (processTotal p) 0 + total f (rows ps)
+      by true p ps = omega (arith, total-parts (times (p .bound) (row p)) (rows ps), process-total p)
+      by false p ps = omega arith
 
   -- of all processes
   pub total-few : {v e : ℕ} (ps : List Process) → Few f → v ≤ 8 → ProperProcesses v e ps → total f (rows ps) ≤ 160 * length ps

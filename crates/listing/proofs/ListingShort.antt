@@ -1,17 +1,21 @@
 -- The text of a proper sheet fits into 8,192 bytes.
-use Prim.Native.Nat.{ℕ, _-_, _^_, _<_, _≤_}
+use mathlib.Core.Path.{refl}
+use mathlib.Core.List.{List, [], _∷_, List·Memᴰ·head, List·Memᴰ·tail}
+use Prim.Native.Nat.{ℕ, _-_, _*_, _^_, _<_, _≤_}
 use native.Mathlib.Omega.{arith}
 use lib.Pow.{pow-mono}
 use lib.ListN.{length, length-append}
 use Rattle.model.specs.Ascii.{ascii}
-use Rattle.model.specs.Sheet.{Process, Architecture, Automaton, Sheet, ProperProcess, ProperArchitecture, ProperAutomaton, ProperSheet}
+use Rattle.model.specs.Sheet.{Process, Tie, Architecture, Automaton, Sheet, ProperProcess, ProperProcesses, ProperTies, ProperArchitecture, ProperAutomaton, ProperSheet}
 use Rattle.model.specs.Compose.{T}
 use Rattle.model.specs.Choice.{rows, entries}
 use Rattle.model.proofs.EntriesBound.{rows-short}
 use Rattle.template.proofs.FilledShort.{longest, filled-short}
 use Rattle.text.proofs.RowsShort.{processes-short, edges-short}
-use Rattle.listing.specs.Listing.{frontText, processText, statesText, edLine, exLine, twos, threes, total, countsText, showText}
+use Rattle.ties.specs.Leaders.{leaders}
+use Rattle.listing.specs.Listing.{frontText, processText, tieText, tiesText, statesText, edLine, exLine, twos, threes, total, once, countsText, showText}
 use Rattle.listing.proofs.Exponents.{twos-few, threes-few, total-few}
+use Rattle.listing.proofs.LeadingRows.{leading-has, leading-short}
 
 -- ---- the records
 front-short : (a : Architecture) → ProperArchitecture a → length (frontText (a .variables) (a .environment) (a .root)) ≤ 111
@@ -27,6 +31,23 @@ process-short {v} few i p at h own =
     let known : 2 ^ v ≤ 256 = pow-mono {i = v} {j = 8} few in
     filled-short 2 (ascii "process # reads @ sets @ states #\n") _ (omega arith, (omega (arith, own .inputs-known), (omega (arith, own .outputs-known), (omega (arith, own .few-states), tt))))
 
+-- a process has a number of one digit
+tie-short : (t : Tie) → t .left < 10 → t .right < 10 → length (tieText t) ≤ 8
+unfolding longest
+tie-short t l r = filled-short 0 (ascii "tie # #\n") _ (l, (r, tt))
+
+ties-short : (ps : List Process) (ts : List Tie) → length ps ≤ 4 → ProperTies ps ts → length (tiesText ts) ≤ 8 * length ts
+unfolding tiesText
+ties-short ps [] few g = omega arith
+ties-short ps (t ∷ ts) few g =
+    let own = g t (List·Memᴰ·head refl) in
+    omega (
+      arith,
+      length-append (tieText t) (tiesText ts),
+      tie-short t (omega (arith, own .left-known)) (omega (arith, own .right-known)),
+      ties-short ps ts few (λ u m. g u (List·Memᴰ·tail m)),
+    )
+
 states-short : {v : ℕ} (u : Automaton) → ProperAutomaton v u → length (statesText (u .states) (u .initial) (u .rejecting)) ≤ 119
 unfolding longest
 states-short u g =
@@ -41,12 +62,14 @@ counts-short a g =
     let f = g .front in
     let ps = a .processes in
     let n = f .few-processes in
+    let own : ProperProcesses (a .variables) (a .environment) (once a) = λ p m. f .processes-proper p (leading-has (leaders (length ps) (a .ties)) 0 ps p m) in
+    let few = leading-short (leaders (length ps) (a .ties)) 0 ps in
     let all : length (rows ps) < 1000 = omega (arith, n, rows-short ps (f .processes-proper)) in
-    let two : total twos (rows ps) < 1000 = omega (arith, n, total-few twos ps twos-few (f .few-variables) (f .processes-proper)) in
-    let three : total threes (rows ps) < 1000 = omega (arith, n, total-few threes ps threes-few (f .few-variables) (f .processes-proper)) in
+    let two : total twos (rows (once a)) < 1000 = omega (arith, n, few, total-few twos (once a) twos-few (f .few-variables) own) in
+    let three : total threes (rows (once a)) < 1000 = omega (arith, n, few, total-few threes (once a) threes-few (f .few-variables) own) in
     filled-short 2 (ascii "composed #\nentries #\nchoices 2^# 3^#\n") _ (omega (arith, g .few-composed), (all, (two, (three, tt))))
 
--- ---- the text: at most 4 processes and 64 edges
+-- ---- the text: at most 4 processes, 3 ties and 64 edges
 pub show-short : (s : Sheet) → ProperSheet s → length (showText s) ≤ 8192
 unfolding showText longest
 show-short s g =
@@ -59,6 +82,8 @@ show-short s g =
       front-short (s .architecture) a,
       processes-short (λ i p at. processText i p) 114 4 (process-short (f .few-variables)) 0 (s .architecture .processes) 0 (f .processes-proper) (omega (arith, f .few-processes)),
       f .few-processes,
+      ties-short (s .architecture .processes) (s .architecture .ties) (f .few-processes) (f .ties-proper),
+      f .few-ties,
       states-short (s .automaton) u,
       edges-short (f .few-variables) (u .few-states) edLine exLine 110 (omega arith) (omega arith) (s .automaton .edges) (u .edges-proper),
       u .few-edges,

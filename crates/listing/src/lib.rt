@@ -1,12 +1,14 @@
 // What the showing program prints: a line for each record of a sheet, and the counts.
 ghost use mathlib.Core.Path.{_≡_};
 ghost use Prim.Native.Nat.{_+_, _*_, _^_, _<_, _≤_};
+ghost use lib.Dec.{eqb};
 ghost use lib.ListN.{length, getD};
-ghost use Rattle.model.specs.Mask.{count};
-ghost use Rattle.model.specs.Choice.{next, entries as entriesOf};
-ghost use Rattle.architecture.specs.Struct.{IsProper, architectureOf, processIn, processesIn};
+ghost use Rattle.model.specs.Mask.{if, count};
+ghost use Rattle.model.specs.Choice.{next, rows};
+ghost use Rattle.architecture.specs.Struct.{IsProper, architectureOf, processIn, processesIn, tiesIn};
 ghost use Rattle.sheet.specs.Struct.{IsProper as Proper, sheetOf};
 ghost use Rattle.append.specs.Appends.{Appends};
+ghost use Rattle.ties.specs.Leaders.{leaders};
 ghost use Rattle.template.specs.Holds.{Holds};
 ghost use Rattle.listing.specs.Listing as spec;
 use architecture::Architecture;
@@ -63,6 +65,32 @@ fn put_processes(text: &mut [u8], start: usize, a: Architecture) -> usize
     at
 }
 
+// SY: the two processes, in the order of the file.
+fn put_tie(text: &mut [u8], at: usize, left: usize, right: usize) -> usize
+    requires { ⌜ at + length (spec.tieText (record { left = left; right = right })) ≤ length (now text) ⌝ }
+    ensures { λ r. ⌜ Appends (now (text .entry)) at (spec.tieText (record { left = left; right = right })) r (now (text .exit)) ⌝ }
+{
+    put_filled(text, at, b"tie # #\n", &[left, right])
+}
+
+// Every SY.
+fn put_ties(text: &mut [u8], start: usize, a: Architecture) -> usize
+    requires { ⌜ IsProper a ⌝ }
+    requires { ⌜ start + length (spec.tiesText (tiesIn a)) ≤ length (now text) ⌝ }
+    ensures { λ r. ⌜ Appends (now (text .entry)) start (spec.tiesText (tiesIn a)) r (now (text .exit)) ⌝ }
+{
+    let lefts = a.lefts;
+    let rights = a.rights;
+    let n = a.ties;
+    let mut at = start;
+    let mut k: usize = 0;
+    while k < n {
+        at = put_tie(text, at, lefts[k] as usize, rights[k] as usize);
+        k += 1;
+    }
+    at
+}
+
 // AU.
 fn put_states(text: &mut [u8], at: usize, u: Automaton) -> usize
     requires { ⌜ at + length (spec.statesText (u .states) (u .initial .0) (u .rejecting)) ≤ length (now text) ⌝ }
@@ -103,14 +131,27 @@ fn next_threes(bound: usize) -> usize
     0
 }
 
-// The exponents of process i's entries together, from those of an output mask and of a next state.
+// Process i leads itself.
+fn leads(a: Architecture, i: usize) -> bool
+    requires { ⌜ IsProper a ⌝ }
+    requires { ⌜ i < a .processes ⌝ }
+    ensures { λ r. ⌜ r ≡ eqb (getD (leaders (a .processes) (tiesIn a)) i 0) i ⌝ }
+{
+    let own = ties::process_leaders(a);
+    own[i] as usize == i
+}
+
+// The exponents of process i's entries together, from those of an output mask and of a next state: nothing, where its table is that of another.
 fn rows_total(a: Architecture, i: usize, of_output: usize, of_next: usize) -> usize
     requires { ⌜ IsProper a ⌝ }
     requires { ⌜ i < a .processes ⌝ }
     requires { ⌜ («of_output» ≤ 8) × («of_next» ≤ 2) ⌝ }
-    ensures { λ r. ⌜ r ≡ getD (a .bounds) i 0 * («of_output» + 2 ^ count (getD (a .inputs) i 0) * «of_next») ⌝ }
+    ensures { λ r. ⌜ r ≡ if (eqb (getD (leaders (a .processes) (tiesIn a)) i 0) i) (getD (a .bounds) i 0 * («of_output» + 2 ^ count (getD (a .inputs) i 0) * «of_next»)) 0 ⌝ }
     ensures { λ r. ⌜ r ≤ 160 ⌝ }
 {
+    if !leads(a, i) {
+        return 0;
+    }
     let indexes = architecture::row_length(a.inputs_of(i)) - 1;
     a.bound_of(i) * (of_output + indexes * of_next)
 }
@@ -118,7 +159,7 @@ fn rows_total(a: Architecture, i: usize, of_output: usize, of_next: usize) -> us
 // The exponent of 2 in the number of choices.
 fn twos(a: Architecture) -> usize
     requires { ⌜ IsProper a ⌝ }
-    ensures { λ r. ⌜ r ≡ spec.total spec.twos (entriesOf (architectureOf a)) ⌝ }
+    ensures { λ r. ⌜ r ≡ spec.total spec.twos (rows (spec.once (architectureOf a))) ⌝ }
 {
     let n = a.processes;
     let mut sum: usize = 0;
@@ -134,7 +175,7 @@ fn twos(a: Architecture) -> usize
 // The exponent of 3: an output mask adds nothing to it.
 fn threes(a: Architecture) -> usize
     requires { ⌜ IsProper a ⌝ }
-    ensures { λ r. ⌜ r ≡ spec.total spec.threes (entriesOf (architectureOf a)) ⌝ }
+    ensures { λ r. ⌜ r ≡ spec.total spec.threes (rows (spec.once (architectureOf a))) ⌝ }
 {
     let n = a.processes;
     let mut sum: usize = 0;
@@ -177,7 +218,8 @@ fn put_sheet(text: &mut [u8], sheet: Sheet) -> usize
     let u = sheet.automaton;
     let after_front = put_front(text, 0, a);
     let after_processes = put_processes(text, after_front, a);
-    let after_states = put_states(text, after_processes, u);
+    let after_ties = put_ties(text, after_processes, a);
+    let after_states = put_states(text, after_ties, u);
     let after_edges = text::put_edges(
         text,
         after_states,

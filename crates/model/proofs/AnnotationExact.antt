@@ -18,7 +18,7 @@ use Rattle.theory.proofs.AnnotationLaws.{annotation-length}
 use Rattle.model.specs.Mask.{bit, count}
 use Rattle.model.specs.Sheet.{Sheet, ProperSheet}
 use Rattle.model.specs.Compose.{T}
-use Rattle.model.specs.Choice.{IsChoice}
+use Rattle.model.specs.Choice.{IsTables}
 use Rattle.model.specs.RunGraph.{vertices, automatonState, rejects, startRejections, Keeps, blank}
 use Rattle.model.specs.Computed.{runGraph, annotationFrom, annotation}
 use Rattle.model.specs.Demands.{Annotates}
@@ -96,7 +96,7 @@ pub rejecting-at-most : (s : Sheet) (c : List ℕ) → ProperSheet s → rejecti
 unfolding rejecting-vertices runGraph
 rejecting-at-most s c good = omega (arith, count-le (runGraph s c .rejects) (vertices s), vertices-few s good)
 
-pub annotates : (s : Sheet) (c : List ℕ) → ProperSheet s → IsChoice (s .architecture) c → Keeps s c → Annotates s c (annotation s c)
+pub annotates : (s : Sheet) (c : List ℕ) → ProperSheet s → IsTables (s .architecture) c → Keeps s c → Annotates s c (annotation s c)
 unfolding annotation
 annotates s c good choice kept = record {
   whole = annotation-whole s c;

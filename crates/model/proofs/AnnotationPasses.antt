@@ -14,7 +14,7 @@ use Rattle.theory.proofs.ValidLaws.{annotation-test}
 use Rattle.model.specs.Mask.{count}
 use Rattle.model.specs.Sheet.{Sheet, ProperSheet}
 use Rattle.model.specs.Compose.{T}
-use Rattle.model.specs.Choice.{IsChoice}
+use Rattle.model.specs.Choice.{IsTables}
 use Rattle.model.specs.RunGraph.{vertices, start, rejects, startRejections, Reachable, Keeps, blank, Valid}
 use Rattle.model.specs.Computed.{runGraph, annotationFrom, annotation, valid}
 use Rattle.model.specs.Calls.{front}
@@ -23,7 +23,7 @@ use Rattle.model.proofs.ComputedTests.{loop-to, loop-from, valid-to, va
 use Rattle.model.proofs.AnnotationExact.{counted-whole, rejecting-at-most, annotates}
 
 -- ---- only the numbers of the vertices count
-pub same-valid : (s : Sheet) (c : List ℕ) → ProperSheet s → IsChoice (s .architecture) c → (f g : ℕ → ℕ) → ((v : ℕ) → v < vertices s → f v ≡ g v) → Valid s c f → Valid s c g
+pub same-valid : (s : Sheet) (c : List ℕ) → ProperSheet s → IsTables (s .architecture) c → (f g : ℕ → ℕ) → ((v : ℕ) → v < vertices s → f v ≡ g v) → Valid s c f → Valid s c g
 same-valid s c good choice f g same h = record {
   starts = λ e. h .starts (same _ (start-lt s c good) ∙ e);
   spreads = λ {v} {w} l n p e. h .spreads l (λ q. n (sym (same v l) ∙ q)) p (same w (step-lt s c good choice v w p) ∙ e);
@@ -45,7 +45,7 @@ module _ (s : Sheet) (c : List ℕ) (k₀ : ℕ) where
   unfolding front
   front-number ann v l = sym (List·getD-append (annotationFrom k₀ s c) (drop (length (annotationFrom k₀ s c)) ann) blank v (omega (arith, counted-whole k₀ s c)))
 
-  module _ (good : ProperSheet s) (choice : IsChoice (s .architecture) c) (kept : Keeps s c) (few : k₀ ≤ 1) where
+  module _ (good : ProperSheet s) (choice : IsTables (s .architecture) c) (kept : Keeps s c) (few : k₀ ≤ 1) where
     counted-valid : Valid s c (λ v. getD (annotationFrom k₀ s c) v blank)
     unfolding valid annotationFrom
     counted-valid =
@@ -57,7 +57,7 @@ module _ (s : Sheet) (c : List ℕ) (k₀ : ℕ) where
         same-valid s c good choice (λ v. getD (annotationFrom k₀ s c) v blank) (λ v. getD (front (annotationFrom k₀ s c) ann) v blank) (front-number ann) counted-valid
 
 -- a choice keeps the sheet exactly where a valid annotation exists, and then one exists whose numbers are at most T times the rejecting states
-module _ (s : Sheet) (c : List ℕ) (good : ProperSheet s) (choice : IsChoice (s .architecture) c) where
+module _ (s : Sheet) (c : List ℕ) (good : ProperSheet s) (choice : IsTables (s .architecture) c) where
   pub valid-exactly-where-kept : ((num : ℕ → ℕ) × Valid s c num) ↔ Keeps s c
   valid-exactly-where-kept =
       let paper = valid-exists {blank = blank} (graph-finite s c good choice) (omega (arith, rejecting-at-most s c good)) in (

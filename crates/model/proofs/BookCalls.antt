@@ -1,6 +1,5 @@
 -- Books of a proper sheet: read and write undo each other, only the entries count, and a part has the records of its process.
 use mathlib.Core.Path.{_≡_, refl, sym, ap, _∙_, subst}
-use mathlib.Core.Bool.{Bool, not, _&&_}
 use mathlib.Core.List.{List, [], _∷_, _++_}
 use Prim.Native.Nat.{ℕ, _-_, _≤_, _<_}
 use native.Mathlib.Omega.{arith}
@@ -11,7 +10,7 @@ use Rattle.model.specs.declared.Refusal.the-variants.{BookBufferTooShort
 use Rattle.model.specs.declared.Reply.{Reply}
 use Rattle.model.specs.Sheet.{Process, Architecture, Sheet}
 use Rattle.model.specs.Reading.{Reading, refused, proper, refuse_when_else_, _then_, readSheet}
-use Rattle.model.specs.Choice.{Entry, entries, IsChoice, fits, may, rows, chosen}
+use Rattle.model.specs.Choice.{entries, IsChoice, rows, chosen}
 use Rattle.model.specs.Book.{form, holes, filled, records, bookLength, bookOf, entryFault, readBook, partStart, partEnd}
 use Rattle.model.specs.Calls.{front, bookShort, writtenFor, written, AfterWrite, wrote, writeOf, AfterRead, tablesOf, gave, readOf, AfterPart, part, partOf}
 use Rattle.model.specs.Demands.{Books}
@@ -19,17 +18,11 @@ use Rattle.model.proofs.ProperSheet.{passes, same-proper}
 use Rattle.model.proofs.Refusing.{go, then-read}
 use Rattle.model.proofs.FitsTest.{fits-length}
 use Rattle.model.proofs.BookInverse.{filled-take, filled-length, holes-form}
-use Rattle.model.proofs.BookRead.{chosen-faultless, faultless-chosen, choice-read, read-choice}
+use Rattle.model.proofs.BookRead.{chosen-faultless, faultless-chosen, fault-chosen, choice-read, read-choice}
 use Rattle.model.proofs.PartsAreBook.{part-is, parts-with-end}
 use Rattle.model.proofs.PartOfProcess.{part-filled}
 
 -- ---- only the entries count
-fits-take : (es : List Entry) (c : List ℕ) → fits es c ≡ fits es (take (length es) c)
-unfolding fits
-fits-take [] c = refl
-fits-take (e ∷ es) [] = refl
-fits-take (e ∷ es) (v ∷ c) = ap (λ (t : Bool). may e v && t) (fits-take es c)
-
 module _ (a : Architecture) where
   -- the book of tables is that of the choice at their front
   pub book-chosen : (tables : List ℕ) → bookOf a tables ≡ bookOf a (chosen a tables)
@@ -41,7 +34,7 @@ module _ (a : Architecture) where
   book-length c = filled-length (form a) c
 
   chosen-front : (c rest : List ℕ) → IsChoice a c → chosen a (c ++ rest) ≡ c
-  chosen-front c rest choice = take-at c rest (length (entries a)) (fits-length choice)
+  chosen-front c rest choice = take-at c rest (length (entries a)) (fits-length (choice .tables))
 
   -- of tables with a choice at the front the tests pass, where there is room
   fitting : (tables book : List ℕ) → IsChoice a (chosen a tables) → bookLength a ≤ length book → writtenFor a tables book ≡ proper (bookOf a (chosen a tables))
@@ -57,9 +50,9 @@ module _ (a : Architecture) where
 
   -- what is behind the entries decides nothing
   written-chosen : (tables book : List ℕ) → writtenFor a tables book ≡ writtenFor a (chosen a tables) book
-  unfolding writtenFor entryFault
+  unfolding writtenFor
   written-chosen tables book =
-      λ j. refuse BadEntry when not (fits-take (entries a) tables j) else refuse BookBufferTooShort when bookShort a book else proper (book-chosen tables j)
+      λ j. refuse BadEntry when fault-chosen a tables j else refuse BookBufferTooShort when bookShort a book else proper (book-chosen tables j)
 
 module _ (sheet : List ℕ) (s : Sheet) (is-proper : readSheet sheet ≡ proper s) where
   -- ---- once the sheet is read
@@ -109,7 +102,7 @@ module _ (sheet : List ℕ) (s : Sheet) (is-proper : readSheet sheet ≡ proper 
   unfolding tablesOf front
   same-tables c c′ choice choice′ e =
       let n : ℕ = length (entries (s .architecture)) in
-      sym (take-at c′ (drop (length c′) (replicate 272 0)) n (fits-length choice′)) ∙ ap (take n) e ∙ take-at c (drop (length c) (replicate 272 0)) n (fits-length choice)
+      sym (take-at c′ (drop (length c′) (replicate 272 0)) n (fits-length (choice′ .tables))) ∙ ap (take n) e ∙ take-at c (drop (length c) (replicate 272 0)) n (fits-length (choice .tables))
 
   one-book : (book book′ : List ℕ) → readOf sheet book .answer ≡ Reply.Done → readOf sheet book′ ≡ readOf sheet book → book′ ≡ book
   one-book book book′ d same =

@@ -1,6 +1,6 @@
 -- A book is read as a choice exactly when it is the writing of that choice, and refused exactly as 10 and 11 say.
 use mathlib.Core.Path.{_≡_, refl, sym, ap, _∙_, subst}
-use mathlib.Core.Bool.{Bool, true, false, not, true≢false}
+use mathlib.Core.Bool.{Bool, true, false, _&&_, not, true≢false}
 use mathlib.Core.Logic.{_⊎_, inl, inr, _↔_}
 use mathlib.Core.List.{List, [], _∷_, append-nil}
 use Prim.Native.Nat.{ℕ}
@@ -12,12 +12,13 @@ use Rattle.model.specs.declared.Refusal.{Refusal}
 use Rattle.model.specs.declared.Refusal.the-variants.{BadBook, BadEntry}
 use Rattle.model.specs.Sheet.{Architecture}
 use Rattle.model.specs.Reading.{Reading, refused, proper, refuse_when_else_}
-use Rattle.model.specs.Choice.{Entry, entries, may, Fits, done, also, IsChoice, fits, chosen}
+use Rattle.model.specs.Choice.{Entry, entries, may, Fits, done, also, IsChoice, fits, keepsTies, chosen}
 use Rattle.model.specs.Book.{form, holes, filled, bookOf, wellFormed, entriesIn, bookFault, entryFault, readBook}
 use Rattle.model.specs.Refusals.{Formed, BookRefused, not-formed, no-choice}
 use Rattle.model.proofs.ProperSheet.{passes, same-proper}
 use Rattle.model.proofs.Refusing.{stop, go, refused-when, refused≢proper}
 use Rattle.model.proofs.FitsTest.{fits-length, fits-front, fits-right}
+use Rattle.model.proofs.TiesTest.{keeps-ties-is, keeps-chosen}
 use Rattle.model.proofs.BookInverse.{filled-well, filled-entries, read-filled, read-length, holes-form}
 
 -- ---- the test of the entries
@@ -31,16 +32,33 @@ fits-taken [] c t = done
 fits-taken (e ∷ es) [] t = absurd (true≢false (sym t))
 fits-taken (e ∷ es) (v ∷ c) t = let h : (may e v ≡ true) × (fits es c ≡ true) = and-is (may e v) (fits es c) .0 t in also (h .0) (fits-taken es c (h .1))
 
+fits-take : (es : List Entry) (c : List ℕ) → fits es c ≡ fits es (take (length es) c)
+unfolding fits
+fits-take [] c = refl
+fits-take (e ∷ es) [] = refl
+fits-take (e ∷ es) (v ∷ c) = ap (λ (t : Bool). may e v && t) (fits-take es c)
+
 module _ (a : Architecture) where
   -- 11 is given exactly when the tables do not begin with a choice
   pub chosen-faultless : (tables : List ℕ) → IsChoice a (chosen a tables) → entryFault a tables ≡ false
   unfolding entryFault
   chosen-faultless tables choice =
-      ap not (subst (λ (l : List ℕ). fits (entries a) l ≡ true) (take-append-drop (length (entries a)) tables) (fits-front (drop (length (entries a)) tables) choice))
+      ap not
+      (and-is (fits (entries a) tables) (keepsTies a tables) .1 (
+        subst (λ (l : List ℕ). fits (entries a) l ≡ true) (take-append-drop (length (entries a)) tables) (fits-front (drop (length (entries a)) tables) (choice .tables)),
+        sym (keeps-chosen a tables) ∙ keeps-ties-is a (chosen a tables) .1 (choice .ties),
+      ))
 
   pub faultless-chosen : (tables : List ℕ) → entryFault a tables ≡ false → IsChoice a (chosen a tables)
   unfolding entryFault
-  faultless-chosen tables e = fits-taken (entries a) tables (not-false _ e)
+  faultless-chosen tables e =
+      let h = and-is (fits (entries a) tables) (keepsTies a tables) .0 (not-false _ e) in
+      record { tables = fits-taken (entries a) tables (h .0); ties = keeps-ties-is a (chosen a tables) .0 (keeps-chosen a tables ∙ h .1) }
+
+  -- what is behind the entries is not looked at
+  pub fault-chosen : (tables : List ℕ) → entryFault a tables ≡ entryFault a (chosen a tables)
+  unfolding entryFault
+  fault-chosen tables = λ j. not (fits-take (entries a) tables j && sym (keeps-chosen a tables) j)
 
   pub chosen-faulty : (tables : List ℕ) → ¬ IsChoice a (chosen a tables) → entryFault a tables ≡ true
   chosen-faulty tables n = by (bool-cases (entryFault a tables))
@@ -74,14 +92,17 @@ module _ (a : Architecture) where
 
   choice-tested : (c : List ℕ) → length c ≡ length (entries a) → (entryFault a c ≡ false) ↔ IsChoice a c
   unfolding entryFault
-  choice-tested c l = (λ e. fits-right (entries a) c l (not-false _ e), λ choice. ap not (fits-choice choice))
+  choice-tested c l = (
+    λ e. let h = and-is (fits (entries a) c) (keepsTies a c) .0 (not-false _ e) in record { tables = fits-right (entries a) c l (h .0); ties = keeps-ties-is a c .0 (h .1) },
+    λ choice. ap not (and-is (fits (entries a) c) (keepsTies a c) .1 (fits-choice (choice .tables), keeps-ties-is a c .1 (choice .ties))),
+  )
 
   -- ---- a book that is read is the writing of its choice
   pub choice-formed : (book c : List ℕ) → IsChoice a c → bookOf a c ≡ book → Formed a book c
-  choice-formed book c choice e = record { all-entries = fits-length choice; is-book = e }
+  choice-formed book c choice e = record { all-entries = fits-length (choice .tables); is-book = e }
 
   pub choice-read : (book c : List ℕ) → IsChoice a c → bookOf a c ≡ book → readBook a book ≡ proper c
-  choice-read book c choice e = formed-read book c (choice-formed book c choice e) ∙ go BadEntry _ (choice-tested c (fits-length choice) .1 choice)
+  choice-read book c choice e = formed-read book c (choice-formed book c choice e) ∙ go BadEntry _ (choice-tested c (fits-length (choice .tables)) .1 choice)
 
   pub read-choice : (book c : List ℕ) → readBook a book ≡ proper c → IsChoice a c × (bookOf a c ≡ book)
   unfolding readBook bookFault

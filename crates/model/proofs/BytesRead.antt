@@ -32,12 +32,18 @@ module _ (b : List ℕ) (i : ℕ) where
       let e₁ : drop (i + 1) b ≡ byte b (i + 1) ∷ drop (i + 2) b = drop-byte 1 (omega arith) in
       drop-cons b i 0 (omega arith) ∙ rw (← add-one i, e₁)
 
+  -- two fields behind the mark
+  pub drop-two : i + 4 ≤ length b → drop (i + 2) b ≡ byte b (i + 2) ∷ byte b (i + 3) ∷ drop (i + 4) b
+  drop-two l =
+      let e₂ : drop (i + 2) b ≡ byte b (i + 2) ∷ drop (i + 3) b = drop-byte 2 (omega arith) in
+      let e₃ : drop (i + 3) b ≡ byte b (i + 3) ∷ drop (i + 4) b = drop-byte 3 (omega arith) in
+      cc
+
   -- three fields behind the mark
   pub drop-three : i + 5 ≤ length b → drop (i + 2) b ≡ byte b (i + 2) ∷ byte b (i + 3) ∷ byte b (i + 4) ∷ drop (i + 5) b
   drop-three l =
-      let e₂ : drop (i + 2) b ≡ byte b (i + 2) ∷ drop (i + 3) b = drop-byte 2 (omega arith) in
-      let e₃ : drop (i + 3) b ≡ byte b (i + 3) ∷ drop (i + 4) b = drop-byte 3 (omega arith) in
-      let e₄ : drop (i + 4) b ≡ byte b (i + 4) ∷ drop (i + 5) b = drop-byte 4 (omega arith) in
+      let e : drop (i + 4) b ≡ byte b (i + 4) ∷ drop (i + 5) b = drop-byte 4 (omega arith) in
+      let e₂ = drop-two (omega arith) in
       cc
 
   -- four fields behind the mark

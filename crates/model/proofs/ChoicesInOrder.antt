@@ -4,11 +4,12 @@ use mathlib.Core.Logic.{_⊎_, inl, inr, ⊎-elim}
 use mathlib.Core.List.{List, [], _∷_, _++_, map, List·Memᴰ, List·Memᴰ·head, List·Memᴰ·tail, List·Memᴰ·not-nil, List·Memᴰ·cases-cons, List·Memᴰ·append-cases}
 use Prim.Native.Nat.{ℕ}
 use native.Mathlib.Omega.{arith}
-use Rattle.theory.specs.Lists.{empty, before}
-use Rattle.theory.proofs.ListLaws.{pairwise-append}
+use Rattle.theory.specs.Lists.{empty, before, all}
+use Rattle.theory.proofs.ListLaws.{pairwise-append, filter-sound, filter-complete, filter-all, filter-pairwise}
 use Rattle.model.specs.Sheet.{Architecture, ProperArchitecture}
-use Rattle.model.specs.Choice.{Entry, values, entries, Fits, done, also, Before, lower, later, Ordered, Once, each, choices}
+use Rattle.model.specs.Choice.{Entry, values, entries, Fits, done, also, keepsTies, Before, lower, later, Ordered, Once, each, fillings, choices}
 use Rattle.model.specs.Demands.{order-of-choices}
+use Rattle.model.proofs.TiesTest.{keeps-ties-is}
 use Rattle.model.proofs.FirstInOrder.{Rising, flat, up, AllSmall, values-rising, values-has, values-may, entries-small}
 
 heads-sound : (v : ℕ) (cs : List (List ℕ)) (c : List ℕ) → List·Memᴰ c (map (λ d. v ∷ d) cs) → (d : List ℕ) × List·Memᴰ d cs × (c ≡ v ∷ d)
@@ -43,19 +44,19 @@ unfolding each
 each-has (u ∷ vs) cs v c (List·Memᴰ·head e) m = in-left (map (λ d. u ∷ d) cs) (each vs cs) (subst (λ (x : ℕ). List·Memᴰ (x ∷ c) (map (λ d. u ∷ d) cs)) (sym e) (heads-has u cs c m))
 each-has (u ∷ vs) cs v c (List·Memᴰ·tail i) m = in-right (map (λ d. u ∷ d) cs) (each vs cs) (each-has vs cs v c i m)
 
--- ---- exactly the choices
-listed-fits : (es : List Entry) (c : List ℕ) → List·Memᴰ c (choices es) → Fits es c
-unfolding choices
+-- ---- exactly the fillings
+listed-fits : (es : List Entry) (c : List ℕ) → List·Memᴰ c (fillings es) → Fits es c
+unfolding fillings
 listed-fits [] c m = ⊎-elim (λ (e : c ≡ []). subst (Fits []) (sym e) done) (λ i. absurd (List·Memᴰ·not-nil i)) (List·Memᴰ·cases-cons m)
 listed-fits (e ∷ es) c m =
-    let r : (v : ℕ) × (d : List ℕ) × List·Memᴰ v (values e) × List·Memᴰ d (choices es) × (c ≡ v ∷ d) = each-sound (values e) (choices es) c m in
+    let r : (v : ℕ) × (d : List ℕ) × List·Memᴰ v (values e) × List·Memᴰ d (fillings es) × (c ≡ v ∷ d) = each-sound (values e) (fillings es) c m in
     subst (Fits (e ∷ es)) (sym (r .4)) (also (values-may e (r .0) (r .2)) (listed-fits es (r .1) (r .3)))
 
-fits-listed : (es : List Entry) (c : List ℕ) → AllSmall es → Fits es c → List·Memᴰ c (choices es)
-unfolding choices
+fits-listed : (es : List Entry) (c : List ℕ) → AllSmall es → Fits es c → List·Memᴰ c (fillings es)
+unfolding fillings
 fits-listed [] c small done = List·Memᴰ·head refl
 fits-listed (e ∷ es) c small (also {v = v} {c = d} m f) =
-    each-has (values e) (choices es) v d (values-has e v (small e (List·Memᴰ·head refl)) m) (fits-listed es d (λ x i. small x (List·Memᴰ·tail i)) f)
+    each-has (values e) (fillings es) v d (values-has e v (small e (List·Memᴰ·head refl)) m) (fits-listed es d (λ x i. small x (List·Memᴰ·tail i)) f)
 
 -- ---- in order
 heads-ordered : (v : ℕ) {cs : List (List ℕ)} → Ordered cs → Ordered (map (λ d. v ∷ d) cs)
@@ -73,10 +74,10 @@ each-ordered cs (up {x = v} {xs = vs} h r) o =
     let b : (u : ℕ) × (d : List ℕ) × List·Memᴰ u vs × List·Memᴰ d cs × (y ≡ u ∷ d) = each-sound vs cs y j in
     subst (λ (z : List ℕ). Before z y) (sym (a .2)) (subst (Before (v ∷ a .0)) (sym (b .4)) (lower (h (b .0) (b .2)))))
 
-choices-ordered : (es : List Entry) → Ordered (choices es)
-unfolding choices
-choices-ordered [] = before (λ d m. absurd (List·Memᴰ·not-nil m)) empty
-choices-ordered (e ∷ es) = each-ordered (choices es) (values-rising e) (choices-ordered es)
+fillings-ordered : (es : List Entry) → Ordered (fillings es)
+unfolding fillings
+fillings-ordered [] = before (λ d m. absurd (List·Memᴰ·not-nil m)) empty
+fillings-ordered (e ∷ es) = each-ordered (fillings es) (values-rising e) (fillings-ordered es)
 
 -- ---- each once
 before-differs : {c d : List ℕ} → Before c d → ¬ (c ≡ d)
@@ -88,8 +89,15 @@ ordered-once empty = empty
 ordered-once (before h o) = before (λ d m. before-differs (h d m)) (ordered-once o)
 
 pub choices-in-order : (a : Architecture) → ProperArchitecture a → order-of-choices a
-choices-in-order a good = record {
-  exactly = λ c. (λ m. listed-fits (entries a) c m, λ f. fits-listed (entries a) c (entries-small a good) f);
-  once = ordered-once (choices-ordered (entries a));
-  ordered = choices-ordered (entries a);
-}
+unfolding choices keepsTies all
+choices-in-order a good =
+    let listed = fillings (entries a) in
+    record {
+      exactly = λ c. (
+        λ m. let h = filter-sound (keepsTies a) c listed m in record { tables = listed-fits (entries a) c (h .0); ties = keeps-ties-is a c .0 (h .1) },
+        λ h. filter-complete (keepsTies a) c listed (fits-listed (entries a) c (entries-small a good) (h .tables)) (keeps-ties-is a c .1 (h .ties)),
+      );
+      once = ordered-once (filter-pairwise (keepsTies a) (fillings-ordered (entries a)));
+      ordered = filter-pairwise (keepsTies a) (fillings-ordered (entries a));
+      untied = λ none. filter-all (keepsTies a) listed (λ c. rw none);
+    }

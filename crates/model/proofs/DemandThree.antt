@@ -28,7 +28,7 @@ use Rattle.model.proofs.AnnotationPasses.{valid-exactly-where-kept, val
 use Rattle.model.proofs.DemandTwo.{annotate-kept, passes-judge}
 use Rattle.model.proofs.ChoicesInOrder.{choices-in-order}
 use Rattle.model.proofs.FirstUnique.{found-none, found-some}
-use Rattle.model.proofs.FewerStates.{padded-is-choice}
+use Rattle.model.proofs.FewerStates.{padded-is-tables}
 
 module _ (sheet book ann : List ℕ) (s : Sheet) (not-refused : findSheet sheet book ann ≡ proper s) where
   unrefused : (readSheet sheet ≡ proper s) × (vertices s ≤ length ann)
@@ -53,7 +53,7 @@ module _ (sheet book ann : List ℕ) (s : Sheet) (not-refused : findSheet sheet 
   -- a choice that does not keep the sheet has a rejecting loop
   looping : (c : List ℕ) → IsChoice (s .architecture) c → keeps s c ≡ false → RejectingLoop s c
   unfolding keeps
-  looping c choice e = loops-exactly s c good choice .0 (not-false (loops s c) e)
+  looping c choice e = loops-exactly s c good (choice .tables) .0 (not-false (loops s c) e)
 
   all-loop : firstChoice s ≡ none → (c : List ℕ) → IsChoice (s .architecture) c → RejectingLoop s c
   all-loop e c choice = looping c choice (found-none s good e c choice)
@@ -62,8 +62,8 @@ module _ (sheet book ann : List ℕ) (s : Sheet) (not-refused : findSheet sheet 
   the-first c e =
       let f = found-some s good c e in
       record {
-        is-choice = f .fitting;
-        keeps = keeps-exactly s c good (f .fitting) .0 (f .passing);
+        is-choice = f .is-choice;
+        keeps = keeps-exactly s c good (f .is-choice .tables) .0 (f .passing);
         first = λ d choice b. looping d choice (f .earlier d choice b);
       }
 
@@ -89,7 +89,7 @@ module _ (sheet book ann : List ℕ) (s : Sheet) (not-refused : findSheet sheet 
   tables none e n = absurd (n (nothing-answer none e (all-loop e)))
   tables (some c) e n =
       let f : First s c = the-first c e in
-      (c, annotation s c, f, annotates s c good (f .is-choice) (f .keeps), found c e)
+      (c, annotation s c, f, annotates s c good (f .is-choice .tables) (f .keeps), found c e)
 
   -- ---- find's own book
   answer-tables : (o : Option (List ℕ)) → firstChoice s ≡ o → findOf sheet book ann .answer ≡ Outcome.Tables → (c : List ℕ) × (firstChoice s ≡ some c)
@@ -126,15 +126,19 @@ module _ (sheet book ann : List ℕ) (s : Sheet) (not-refused : findSheet sheet 
     passed : judgeOf sheet own (findOf sheet book ann .annotation) ≡ Verdict.Found Yes
     passed = ap (λ (a : AfterAnnotate). judgeOf sheet own (a .annotation)) (sym agrees) ∙ passes-judge sheet own ann own-weighed
 
+  -- it is the book of a choice
+  pub own-choice : findOf sheet book ann .answer ≡ Outcome.Tables → (c : List ℕ) × IsChoice (s .architecture) c × (bookOf (s .architecture) c ≡ own)
+  own-choice q = let r = answer-tables (firstChoice s) refl q in (r .0, the-first (r .0) (r .1) .is-choice, sym (own-is (r .0) (r .1)))
+
   pub third-demand : demand-3 sheet book ann s not-refused
   third-demand = record {
     none-exactly = (λ q. all-loop (answer-nothing (firstChoice s) refl q), λ h. nothing-answer (firstChoice s) refl h);
-    none-with-fewer-states = λ q bounds c choice. all-loop (answer-nothing (firstChoice s) refl q) (padded (s .architecture) bounds c)
-        (padded-is-choice (s .architecture) bounds c (good .architecture) choice);
+    none-with-fewer-states = λ q bounds c fits ties. all-loop (answer-nothing (firstChoice s) refl q) (padded (s .architecture) bounds c)
+        record { tables = padded-is-tables (s .architecture) bounds c (good .architecture) fits; ties = ties };
     otherwise = λ n. tables (firstChoice s) refl n;
     choices-listed = choices-in-order (s .architecture) (good .architecture);
-    valid-exists = λ c choice. valid-exactly-where-kept s c good choice;
-    valid-bounded = λ c choice. valid-bounded s c good choice;
+    valid-exists = λ c choice. valid-exactly-where-kept s c good (choice .tables);
+    valid-bounded = λ c choice. valid-bounded s c good (choice .tables);
     passes-judge = λ q. let r = answer-tables (firstChoice s) refl q in passed (r .0) (r .1);
     annotate-agrees = λ q. let r = answer-tables (firstChoice s) refl q in agrees (r .0) (r .1);
   }

@@ -14,7 +14,7 @@ use Rattle.model.specs.declared.Verdict.{Verdict}
 use Rattle.model.specs.Mask.{if}
 use Rattle.model.specs.Sheet.{Sheet, ProperSheet}
 use Rattle.model.specs.Reading.{Reading, refused, proper, readSheet}
-use Rattle.model.specs.Choice.{IsChoice}
+use Rattle.model.specs.Choice.{IsTables}
 use Rattle.model.specs.RunGraph.{vertices, startRejections, RejectingLoop, Keeps, blank, Valid}
 use Rattle.model.specs.Computed.{loops, annotationFrom, annotation, valid}
 use Rattle.model.specs.Book.{bookOf, readBook}
@@ -62,7 +62,7 @@ module _ (sheet book ann : List ℕ) where
 
   -- what holds of a weighed sheet and choice may be exchanged
   exchanged : {P Q : Sheet → List ℕ → Type 0} (w : Weighed sheet book ann P)
-      → (ProperSheet (w .read) → IsChoice (w .read .architecture) (w .choice) → Q (w .read) (w .choice)) → Weighed sheet book ann Q
+      → (ProperSheet (w .read) → IsTables (w .read .architecture) (w .choice) → Q (w .read) (w .choice)) → Weighed sheet book ann Q
   exchanged w f = record {
     read = w .read;
     choice = w .choice;
@@ -70,7 +70,7 @@ module _ (sheet book ann : List ℕ) where
     is-choice = w .is-choice;
     is-book = w .is-book;
     has-room = w .has-room;
-    holds = f (sheet-proper sheet (w .read) (w .is-proper)) (w .is-choice);
+    holds = f (sheet-proper sheet (w .read) (w .is-proper)) (w .is-choice .tables);
   }
 
   -- ---- the answers, by the computed tests
@@ -137,14 +137,14 @@ module _ (sheet book ann : List ℕ) where
   says-yes = (
     λ e. let w = was-judged Yes e in exchanged w (λ good choice. valid-exactly (w .read) (w .choice) good choice ann .0 (test-yes (valid (w .read) (w .choice) ann) .0 (w .holds))),
     λ w. judge-is w
-        ∙ ap Verdict.Found (test-yes (valid (w .read) (w .choice) ann) .1 (valid-exactly (w .read) (w .choice) (sheet-proper sheet (w .read) (w .is-proper)) (w .is-choice) ann .1 (w .holds))),
+        ∙ ap Verdict.Found (test-yes (valid (w .read) (w .choice) ann) .1 (valid-exactly (w .read) (w .choice) (sheet-proper sheet (w .read) (w .is-proper)) (w .is-choice .tables) ann .1 (w .holds))),
   )
 
   says-no : (judgeOf sheet book ann ≡ Verdict.Found No) ↔ Weighed sheet book ann (λ s c. ¬ Valid s c (λ v. getD ann v blank))
   says-no = (
     λ e. let w = was-judged No e in
         exchanged w (λ good choice h. true≢false (sym (valid-exactly (w .read) (w .choice) good choice ann .1 h) ∙ test-no (valid (w .read) (w .choice) ann) .0 (w .holds))),
-    λ w. let right = valid-exactly (w .read) (w .choice) (sheet-proper sheet (w .read) (w .is-proper)) (w .is-choice) ann in
+    λ w. let right = valid-exactly (w .read) (w .choice) (sheet-proper sheet (w .read) (w .is-proper)) (w .is-choice .tables) ann in
         judge-is w ∙ ap Verdict.Found (test-no (valid (w .read) (w .choice) ann) .1 (not-true-false (valid (w .read) (w .choice) ann) (λ q. w .holds (right .0 q)))),
   )
 
@@ -153,12 +153,12 @@ module _ (sheet book ann : List ℕ) where
   says-loop = (
     λ e. let w = was-annotated No e in exchanged w (λ good choice. loops-exactly (w .read) (w .choice) good choice .0 (loop-no (loops (w .read) (w .choice)) (w .holds))),
     λ w. ap (λ (a : AfterAnnotate). a .answer) (annotate-is w)
-        ∙ looped _ (loops (w .read) (w .choice)) (loops-exactly (w .read) (w .choice) (sheet-proper sheet (w .read) (w .is-proper)) (w .is-choice) .1 (w .holds)),
+        ∙ looped _ (loops (w .read) (w .choice)) (loops-exactly (w .read) (w .choice) (sheet-proper sheet (w .read) (w .is-proper)) (w .is-choice .tables) .1 (w .holds)),
   )
 
   pub annotate-kept : (w : Weighed sheet book ann Keeps) → annotateOf sheet book ann ≡ record { answer = Verdict.Found Yes; annotation = front (annotation (w .read) (w .choice)) ann }
   annotate-kept w =
-      let right = loops-exactly (w .read) (w .choice) (sheet-proper sheet (w .read) (w .is-proper)) (w .is-choice) in
+      let right = loops-exactly (w .read) (w .choice) (sheet-proper sheet (w .read) (w .is-proper)) (w .is-choice .tables) in
       annotate-is w ∙ kept _ (loops (w .read) (w .choice)) (not-true-false (loops (w .read) (w .choice)) (λ q. w .holds (right .0 q)))
 
   says-annotated : (annotateOf sheet book ann .answer ≡ Verdict.Found Yes) ↔ Weighed sheet book ann Keeps
@@ -179,7 +179,7 @@ passes-from k₀ few sheet book ann buffer w =
       is-choice = w .is-choice;
       is-book = w .is-book;
       has-room = front-long (w .read) (w .choice) k₀ buffer;
-      holds = front-valid (w .read) (w .choice) k₀ (sheet-proper sheet (w .read) (w .is-proper)) (w .is-choice) (w .holds) few buffer;
+      holds = front-valid (w .read) (w .choice) k₀ (sheet-proper sheet (w .read) (w .is-proper)) (w .is-choice .tables) (w .holds) few buffer;
     }
 
 pub passes-judge : (sheet book ann : List ℕ) → Weighed sheet book ann Keeps → judgeOf sheet book (annotateOf sheet book ann .annotation) ≡ Verdict.Found Yes
@@ -198,10 +198,10 @@ older sheet book ann w =
     record {
       whole = counted-whole 0 s c;
       lower = λ v r.
-          sym (counted-from s c good (w .is-choice) (w .holds) (startRejections s) v r)
-          ∙ front-number s c (startRejections s) ann v (path-lt s c good (w .is-choice) (r .1))
+          sym (counted-from s c good (w .is-choice .tables) (w .holds) (startRejections s) v r)
+          ∙ front-number s c (startRejections s) ann v (path-lt s c good (w .is-choice .tables) (r .1))
           ∙ ap (λ (x : AfterAnnotate). getD (x .annotation) v blank) (sym (annotate-kept sheet book ann w));
-      others = blank-elsewhere s c good (w .is-choice) (w .holds) 0;
+      others = blank-elsewhere s c good (w .is-choice .tables) (w .holds) 0;
     }
 
 pub second-demand : demand-2
@@ -211,7 +211,7 @@ second-demand = record {
   says-loop = says-loop;
   says-annotated = says-annotated;
   annotates = λ sheet book ann w.
-      (annotation (w .read) (w .choice), annotates (w .read) (w .choice) (sheet-proper sheet (w .read) (w .is-proper)) (w .is-choice) (w .holds), annotate-kept sheet book ann w);
+      (annotation (w .read) (w .choice), annotates (w .read) (w .choice) (sheet-proper sheet (w .read) (w .is-proper)) (w .is-choice .tables) (w .holds), annotate-kept sheet book ann w);
   annotation-passes = passes-judge;
   older-numbers = older;
   older-passes = passes-from 0 (omega arith);

@@ -9,7 +9,7 @@ use lib.Pow.{pow-mono}
 use Rattle.model.specs.Mask.{count}
 use Rattle.model.specs.Sheet.{Process, Architecture, ProperProcesses, ProperArchitecture}
 use Rattle.model.specs.Compose.{rowLength}
-use Rattle.model.specs.Choice.{row, times, rows, entries, IsChoice}
+use Rattle.model.specs.Choice.{row, times, rows, entries, IsTables}
 use Rattle.model.specs.Calls.{front, tablesOf}
 use Rattle.model.proofs.FitsTest.{fits-length, row-length}
 use Rattle.model.proofs.ComposedNumbers.{times-length}
@@ -33,11 +33,11 @@ rows-short (p ∷ ps) g =
       rows-short ps (λ q m. g q (List·Memᴰ·tail m)),
     )
 
-pub choice-short : (a : Architecture) (c : List ℕ) → ProperArchitecture a → IsChoice a c → length c ≤ 272
+pub choice-short : (a : Architecture) (c : List ℕ) → ProperArchitecture a → IsTables a c → length c ≤ 272
 unfolding entries
 choice-short a c good choice = omega (arith, fits-length choice, rows-short (a .processes) (good .front .processes-proper), good .front .few-processes)
 
-pub tables-length : (a : Architecture) (c : List ℕ) → ProperArchitecture a → IsChoice a c → length (tablesOf c) ≡ 272
+pub tables-length : (a : Architecture) (c : List ℕ) → ProperArchitecture a → IsTables a c → length (tablesOf c) ≡ 272
 unfolding tablesOf front
 tables-length a c good choice =
     omega (

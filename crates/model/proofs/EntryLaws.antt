@@ -10,7 +10,7 @@ use lib.ListN.{length, getD, set, replicate}
 use borrow.Author.Tests.{lt-ltb, eq-eqb}
 use Rattle.model.specs.Mask.{within, count}
 use Rattle.model.specs.Sheet.{Process, Architecture, ProperArchitecture}
-use Rattle.model.specs.Choice.{Entry, output, next, may, row, times, rows, entries, Fits, done, also, IsChoice, Before, lower, later}
+use Rattle.model.specs.Choice.{Entry, output, next, may, row, times, rows, entries, Fits, done, also, IsTables, Before, lower, later}
 
 -- ---- by index
 pub fits-at : {es : List Entry} {c : List ℕ} → Fits es c → (e₀ : Entry) (i : ℕ) → i < length es → may (getD es i e₀) (getD c i 0) ≡ true
@@ -76,5 +76,5 @@ pub next-zero : (b : ℕ) → 1 ≤ b → MayZero (next b)
 unfolding may
 next-zero b l = lt-ltb 0 b l
 
-pub zeros-fit : (a : Architecture) → ProperArchitecture a → IsChoice a (replicate (length (entries a)) 0)
+pub zeros-fit : (a : Architecture) → ProperArchitecture a → IsTables a (replicate (length (entries a)) 0)
 zeros-fit a good = zeros (entries a) (entries-have MayZero a (λ p m. (output-zero (p .outputs), next-zero (p .bound) (good .front .processes-proper p m .some-state))))

@@ -4,13 +4,14 @@ use mathlib.Core.Bool.{Bool, true, false, _||_, not}
 use mathlib.Core.List.{List, [], _∷_, _++_, List·Memᴰ, List·Memᴰ·head, List·Memᴰ·tail, List·Memᴰ·not-nil, Memᴰ·append-right}
 use Prim.Native.Nat.{ℕ, _-_, _^_, _≤_, _<_}
 use native.Mathlib.Omega.{arith}
-use borrow.Author.Tests.{le-ltb, lt-leb, ne-eqb}
+use lib.Dec.{eqb}
+use borrow.Author.Tests.{le-ltb, lt-leb, ne-eqb, eq-eqb}
 use Rattle.theory.specs.Lists.{Pairwise, before, all, from}
 use Rattle.theory.proofs.ListLaws.{all-is, from-least}
 use Rattle.model.specs.Mask.{beyond, count}
-use Rattle.model.specs.Sheet.{Process, Architecture, Edge, Automaton, withProcess, withEdge, owned, composedStates, Apart}
-use Rattle.model.specs.Sheet.{ProperProcess, ProperFront, ProperArchitecture, ProperEdge, ProperAutomaton}
-use Rattle.model.specs.Reading.{arFault, taken, fieldFault, prFault, allFault, auFault, edFault}
+use Rattle.model.specs.Sheet.{Process, Tie, Architecture, Edge, Automaton, withProcess, withTie, withEdge, owned, composedStates, Apart}
+use Rattle.model.specs.Sheet.{ProperProcess, SameShape, ProperTie, ProperFront, ProperArchitecture, ProperEdge, ProperAutomaton}
+use Rattle.model.specs.Reading.{arFault, taken, fieldFault, prFault, unlike, tieFault, allFault, auFault, edFault}
 use Rattle.model.proofs.ProperSheet.{apart-sym}
 use Rattle.model.proofs.RunGraphSteps.{from-below}
 
@@ -57,6 +58,23 @@ process-faultless a p g =
     let last : List·Memᴰ p (p ∷ []) = List·Memᴰ·head refl in
     or-off (fields-faultless (a .variables) (a .environment) p (g .processes-proper p (Memᴰ·append-right (a .processes) last)))
     (not-taken (a .processes) p (λ q m. pairwise-across (a .processes) (g .outputs-apart) q p m last))
+
+-- ---- SY
+not-different : {m n : ℕ} → m ≡ n → not (eqb m n) ≡ false
+not-different {m} {n} e = ap not (eq-eqb m n e)
+
+not-unlike : (p q : Process) → SameShape p q → unlike p q ≡ false
+unfolding unlike
+not-unlike p q g = or-off (or-off (not-different (g .bounds)) (not-different (g .inputs))) (not-different (g .outputs))
+
+tie-good : (ps : List Process) (t : Tie) → ProperTie ps t → tieFault ps t ≡ false
+unfolding tieFault
+tie-good ps t g =
+    or-off (or-off (or-off (lt-leb _ (t .left) (g .left-known)) (lt-leb _ (t .right) (g .right-known))) (ne-eqb (t .left) (t .right) (g .two))) (not-unlike _ _ (g .shape))
+
+pub tie-faultless : (a : Architecture) (t : Tie) → ProperFront (withTie a t) → tieFault (a .processes) t ≡ false
+unfolding withTie
+tie-faultless a t g = tie-good (a .processes) t (g .ties-proper t (Memᴰ·append-right (a .ties) (List·Memᴰ·head refl)))
 
 -- ---- at AU
 pub front-faultless : (a : Architecture) → ProperArchitecture a → allFault a ≡ false

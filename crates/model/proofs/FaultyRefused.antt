@@ -1,6 +1,6 @@
 -- A row that begins with its records up to the first faulty one is refused by that record's number, whatever follows: what stands before is read through.
 use mathlib.Core.Path.{_≡_, refl, ap, _∙_}
-use mathlib.Core.Bool.{Bool, true, false, _&&_, _||_, not, or-true}
+use mathlib.Core.Bool.{Bool, true, false, _&&_, _||_, not, or-true, and-false}
 use mathlib.Core.Logic.{_⊎_, inl, inr}
 use mathlib.Core.List.{List, [], _∷_, _++_, append-assoc, List·Memᴰ·not-nil}
 use Prim.Native.Nat.{ℕ, suc, _+_, _-_, _≤_, _<_}
@@ -11,21 +11,21 @@ use lib.ListN.{length}
 use borrow.Author.Tests.{eqb-true, eq-eqb, ne-eqb, lt-ltb}
 use Rattle.theory.proofs.Bools.{and-is}
 use Rattle.model.specs.declared.Refusal.{Refusal}
-use Rattle.model.specs.declared.Refusal.the-variants.{SheetTooShort, WrongMark, BadArchitecture, BadProcess, NoOwnerOrTooMany, BadAutomaton, BadEdge}
-use Rattle.model.specs.Sheet.{Process, Architecture, Edge, Automaton, Sheet, withProcess, withEdge, ProperFront, ProperArchitecture, ProperAutomaton, ProperSheet}
-use Rattle.model.specs.Reading.{refused, marked, edgeMarked, AR, PR, AU, ED, EX, EN, arFault, prFault, allFault, auFault, edFault}
+use Rattle.model.specs.declared.Refusal.the-variants.{SheetTooShort, WrongMark, BadArchitecture, BadProcess, NoOwnerOrTooMany, BadAutomaton, BadEdge, BadTie}
+use Rattle.model.specs.Sheet.{Process, Tie, Architecture, Edge, Automaton, Sheet, withProcess, withTie, withEdge, ProperFront, ProperArchitecture, ProperAutomaton, ProperSheet}
+use Rattle.model.specs.Reading.{refused, marked, tieMarked, edgeMarked, AR, PR, SY, AU, ED, EX, EN, arFault, prFault, tieFault, allFault, auFault, edFault}
 use Rattle.model.specs.Reading.{readEnd, readAutomaton, readFront, readSheet}
-use Rattle.model.specs.SheetFile.{processBytes, edgeBytes, statesBytes, frontBytes, recordsBytes, sheetBytes, FollowsFront, FollowsEdges}
-use Rattle.model.specs.SheetFile.{Faulty, wrong-first-mark, bad-architecture, wrong-mark-behind-front, bad-process, no-owner-or-too-many, bad-automaton}
+use Rattle.model.specs.SheetFile.{processBytes, tieBytes, edgeBytes, statesBytes, frontBytes, recordsBytes, sheetBytes, FollowsFront, FollowsEdges}
+use Rattle.model.specs.SheetFile.{Faulty, wrong-first-mark, bad-architecture, wrong-mark-behind-front, bad-process, bad-tie, no-owner-or-too-many, bad-automaton}
 use Rattle.model.specs.SheetFile.{wrong-mark-behind-edges, bad-edge, byte-behind-end, BeginsFaulty}
-use Rattle.model.proofs.Refusing.{stop, go}
-use Rattle.model.proofs.ProperSheet.{opening-proper, process-more, front-whole, no-edge-proper}
+use Rattle.model.proofs.Refusing.{stop, go, then-refused}
+use Rattle.model.proofs.ProperSheet.{opening-proper, process-more, tie-more, front-whole, no-edge-proper}
 use Rattle.model.proofs.RecordMore.{edge-more}
 use Rattle.model.proofs.FaultsExact.{or-off, front-faultless}
 use Rattle.model.proofs.RecordAt.{At, behind, length-at, long-enough, marked-at}
-use Rattle.model.proofs.FrontReads.{process-next, opening-next, front-through}
+use Rattle.model.proofs.FrontReads.{process-next, opening-next, thenTies, front-through, NoProcess, tie-next, ties-front, front-done}
 use Rattle.model.proofs.AutomatonReads.{states-next, edge-next}
-use Rattle.model.proofs.SheetReads.{front-refused, automaton-refused, front-done, edges-refused, end-refused, end-no-edge}
+use Rattle.model.proofs.SheetReads.{front-refused, automaton-refused, edges-refused, end-refused, end-no-edge}
 
 -- ---- what is not proper has a fault
 -- a test that, failed, would prove what is not
@@ -56,12 +56,12 @@ first-mark-wrong (y ∷ z ∷ []) x b e l n =
     go SheetTooShort _ (long-enough start 2 (omega arith)) ∙ stop WrongMark _ (ap not (marked-at start AR ∙ other-mark n))
 
 mark-wrong : (a : Architecture) (m x b : List ℕ) → b ≡ frontBytes a ++ (m ++ x) → ProperFront a → length m ≡ 2 → ¬ FollowsFront a m → readSheet b ≡ refused WrongMark
-unfolding readAutomaton
+unfolding readAutomaton tieMarked
 mark-wrong a [] x b e g l n = absurd (omega arith)
 mark-wrong a (y ∷ []) x b e g l n = absurd (omega arith)
 mark-wrong a (y ∷ z ∷ w ∷ ws) x b e g l n = absurd (omega arith)
 mark-wrong a (y ∷ z ∷ []) x b e g l n =
-    automaton-refused b a i (front-done a (y ∷ z ∷ x) b e g (room (decLe 4 (length (a .processes))))) WrongMark
+    automaton-refused b a i (front-done a (y ∷ z ∷ x) b e g (room (decLe 4 (length (a .processes))) (a .ties) refl) (no-tie (decLe 3 (length (a .ties))) (decLe 1 (length (a .processes))))) WrongMark
     (go SheetTooShort _ (long-enough here 2 (omega arith)) ∙ stop WrongMark _ (mark (decLe 1 (length (a .processes)))))
   where
     i : ℕ
@@ -71,13 +71,20 @@ mark-wrong a (y ∷ z ∷ []) x b e g l n =
     here = behind (frontBytes a) (y ∷ z ∷ x) e
 
     -- no PR may stand there
-    room : Dec (4 ≤ length (a .processes)) → (length (a .processes) ≡ 4) ⊎ (marked b i PR ≡ false)
-    room (yes h) = let few : length (a .processes) ≤ 4 = g .few-processes in inl (omega arith)
-    room (no h) = inr (marked-at here PR ∙ other-mark (λ q. n (inl (q, omega arith))))
+    room : Dec (4 ≤ length (a .processes)) → (ts : List Tie) → a .ties ≡ ts → NoProcess b a
+    room (yes h) ts is = let few : length (a .processes) ≤ 4 = g .few-processes in inl (omega arith)
+    room (no h) [] is = inr (inr (marked-at here PR ∙ other-mark (λ q. n (inl (q, omega arith, is)))))
+    room (no h) (t ∷ ts) is = inr (inl (λ none. omega (arith, ap length is, ap length none)))
+
+    -- no SY
+    no-tie : Dec (3 ≤ length (a .ties)) → Dec (1 ≤ length (a .processes)) → (length (a .ties) ≡ 3) ⊎ (tieMarked a b i ≡ false)
+    no-tie (yes h) some = let few : length (a .ties) ≤ 3 = g .few-ties in inl (omega arith)
+    no-tie (no h) (yes some) = inr (ap (λ (t : Bool). t && not (eqb (length (a .processes)) 0)) (marked-at here SY ∙ other-mark (λ q. n (inr (inl (q, some, omega arith))))))
+    no-tie (no h) (no none) = inr (ap (λ (t : Bool). marked b i SY && not t) (eq-eqb (length (a .processes)) 0 (omega arith)) ∙ and-false (marked b i SY))
 
     -- and no AU
     mark : Dec (1 ≤ length (a .processes)) → (not (marked b i AU) || eqb (length (a .processes)) 0) ≡ true
-    mark (yes h) = ap (λ (t : Bool). not t || eqb (length (a .processes)) 0) (marked-at here AU ∙ other-mark (λ q. n (inr (q, h))))
+    mark (yes h) = ap (λ (t : Bool). not t || eqb (length (a .processes)) 0) (marked-at here AU ∙ other-mark (λ q. n (inr (inr (q, h)))))
     mark (no h) = ap (λ (t : Bool). not (marked b i AU) || t) (eq-eqb (length (a .processes)) 0 (omega arith)) ∙ or-true (not (marked b i AU))
 
 mark-wrong-behind-edges : (s : Sheet) (m x b : List ℕ) → b ≡ recordsBytes s ++ (m ++ x) → ProperSheet s → length m ≡ 2 → ¬ FollowsEdges (s .automaton) m → readSheet b ≡ refused WrongMark
@@ -108,16 +115,28 @@ end-goes-on s y x b e g =
     (go SheetTooShort _ (long-enough here 2 (omega arith)) ∙ go WrongMark _ (ap not mark) ∙ stop WrongMark _ (lt-ltb (i + 2) (length b) (omega (arith, length-at here))))
 
 -- ---- a faulty record
-architecture-bad : (a : Architecture) (x b : List ℕ) → b ≡ frontBytes a ++ x → a .processes ≡ [] → ¬ ProperFront a → readFront b ≡ refused BadArchitecture
-architecture-bad a x b e none n = opening-next a x b e ∙ stop BadArchitecture _ (passed (arFault a) (opening-proper a none) n)
+architecture-bad : (a : Architecture) (x b : List ℕ) → b ≡ frontBytes a ++ x → a .processes ≡ [] → a .ties ≡ [] → ¬ ProperFront a → readFront b ≡ refused BadArchitecture
+architecture-bad a x b e none untied n = opening-next a x b e ∙ stop BadArchitecture _ (passed (arFault a) (opening-proper a none untied) n)
 
-process-bad : (a : Architecture) (p : Process) (x b : List ℕ) → b ≡ frontBytes a ++ (processBytes p ++ x) → ProperFront a → length (a .processes) < 4 → ¬ ProperFront (withProcess a p)
-    → readFront b ≡ refused BadProcess
-process-bad a p x b e g few n =
+process-bad : (a : Architecture) (p : Process) (x b : List ℕ) → b ≡ frontBytes a ++ (processBytes p ++ x) → ProperFront a → length (a .processes) < 4 → a .ties ≡ []
+    → ¬ ProperFront (withProcess a p) → readFront b ≡ refused BadProcess
+unfolding thenTies
+process-bad a p x b e g few untied n =
     let i : ℕ = length (frontBytes a) in
-    front-through a (processBytes p ++ x) b (suc (3 - length (a .processes))) e g (omega arith)
-    ∙ process-next b i a (3 - length (a .processes)) p x (behind (frontBytes a) (processBytes p ++ x) e)
-    ∙ stop BadProcess _ (passed (prFault a p) (process-more a p g few) n)
+    front-through a (processBytes p ++ x) b (suc (3 - length (a .processes))) e g untied (omega arith)
+    ∙ then-refused _
+    (process-next b i a (3 - length (a .processes)) p x (behind (frontBytes a) (processBytes p ++ x) e)
+    ∙ stop BadProcess _ (passed (prFault a p) (process-more a p g few) n))
+
+tie-bad : (a : Architecture) (t : Tie) (x b : List ℕ) → b ≡ frontBytes a ++ (tieBytes t ++ x) → ProperFront a → 1 ≤ length (a .processes) → length (a .ties) < 3
+    → ¬ ProperFront (withTie a t) → readFront b ≡ refused BadTie
+unfolding tieBytes
+tie-bad a t x b e g some few n =
+    let i : ℕ = length (frontBytes a) in
+    let here : At b i (tieBytes t ++ x) = behind (frontBytes a) (tieBytes t ++ x) e in
+    ties-front a (tieBytes t ++ x) b e g (inr (inr (marked-at here PR))) (suc (2 - length (a .ties))) (omega arith)
+    ∙ tie-next b i a (2 - length (a .ties)) t x here some
+    ∙ stop BadTie _ (passed (tieFault (a .processes) t) (tie-more a t g few) n)
 
 -- AU behind a proper front is reached
 module _ (a : Architecture) (u : Automaton) (x b : List ℕ) (e : b ≡ frontBytes a ++ (statesBytes u ++ x)) (g : ProperFront a) where
@@ -125,8 +144,9 @@ module _ (a : Architecture) (u : Automaton) (x b : List ℕ) (e : b ≡ frontByt
   states-there = behind (frontBytes a) (statesBytes u ++ x) e
 
   states-reached : (r : Refusal) → readAutomaton a b (length (frontBytes a)) ≡ refused r → readSheet b ≡ refused r
-  unfolding statesBytes
-  states-reached r f = automaton-refused b a (length (frontBytes a)) (front-done a (statesBytes u ++ x) b e g (inr (marked-at states-there PR))) r f
+  unfolding statesBytes tieMarked
+  states-reached r f =
+      automaton-refused b a (length (frontBytes a)) (front-done a (statesBytes u ++ x) b e g (inr (inr (marked-at states-there PR))) (inr (rw (marked-at states-there SY)))) r f
 
   owner-missing : 1 ≤ length (a .processes) → ¬ ProperArchitecture a → readSheet b ≡ refused NoOwnerOrTooMany
   owner-missing some n =
@@ -155,11 +175,14 @@ edge-bad s q x b e g few n =
 pub faulty-refused : (p rest : List ℕ) (r : Refusal) → Faulty p r → readSheet (p ++ rest) ≡ refused r
 unfolding sheetBytes
 faulty-refused p rest r (wrong-first-mark m l n) = front-refused (m ++ rest) WrongMark (first-mark-wrong m rest (m ++ rest) refl l n)
-faulty-refused p rest r (bad-architecture a none n) = front-refused (frontBytes a ++ rest) BadArchitecture (architecture-bad a rest (frontBytes a ++ rest) refl none n)
+faulty-refused p rest r (bad-architecture a none untied n) =
+    front-refused (frontBytes a ++ rest) BadArchitecture (architecture-bad a rest (frontBytes a ++ rest) refl none untied n)
 faulty-refused p rest r (wrong-mark-behind-front a m g l n) = mark-wrong a m rest (frontBytes a ++ m ++ rest) (append-assoc (frontBytes a) m rest) g l n
-faulty-refused p rest r (bad-process a q g few n) =
+faulty-refused p rest r (bad-process a q g few untied n) =
     front-refused (frontBytes a ++ processBytes q ++ rest) BadProcess
-    (process-bad a q rest (frontBytes a ++ processBytes q ++ rest) (append-assoc (frontBytes a) (processBytes q) rest) g few n)
+    (process-bad a q rest (frontBytes a ++ processBytes q ++ rest) (append-assoc (frontBytes a) (processBytes q) rest) g few untied n)
+faulty-refused p rest r (bad-tie a t g some few n) =
+    front-refused (frontBytes a ++ tieBytes t ++ rest) BadTie (tie-bad a t rest (frontBytes a ++ tieBytes t ++ rest) (append-assoc (frontBytes a) (tieBytes t) rest) g some few n)
 faulty-refused p rest r (no-owner-or-too-many a u g some n) =
     owner-missing a u rest (frontBytes a ++ statesBytes u ++ rest) (append-assoc (frontBytes a) (statesBytes u) rest) g some n
 faulty-refused p rest r (bad-automaton a u g none n) =

@@ -1,4 +1,4 @@
--- Tables with fewer states stand for a choice of the sheet.
+-- Tables with fewer states stand for tables at the sheet's bounds.
 use mathlib.Core.Path.{_≡_, refl, sym, ap, _∙_, subst}
 use mathlib.Core.List.{List, [], _∷_, _++_, append-assoc, List·Memᴰ·head, List·Memᴰ·tail}
 use Prim.Native.Nat.{ℕ, zero, suc, _+_, _-_, _*_, _^_, _≤_, min}
@@ -9,7 +9,7 @@ use borrow.Author.Tests.{ltb-true, lt-ltb}
 use Rattle.model.specs.Mask.{count}
 use Rattle.model.specs.Sheet.{Process, Architecture, ProperProcesses, ProperArchitecture}
 use Rattle.model.specs.Compose.{rowLength, processLength}
-use Rattle.model.specs.Choice.{Entry, next, may, row, times, rows, entries, Fits, done, also, IsChoice, lowered, padRows, padded}
+use Rattle.model.specs.Choice.{Entry, next, may, row, times, rows, entries, Fits, done, also, IsTables, lowered, padRows, padded}
 use Rattle.model.proofs.FitsTest.{row-length}
 use Rattle.model.proofs.EntryLaws.{times-have, MayZero, zeros, output-zero, next-zero}
 use Rattle.model.proofs.ComposedNumbers.{fits-drop, times-length}
@@ -83,6 +83,6 @@ pad-fits (p ∷ ps) (b ∷ bs) c g f =
     subst (λ (n : ℕ). Fits (rows (p ∷ ps)) (take (m * rowLength p) c ++ replicate n 0 ++ padRows ps bs (drop (m * rowLength p) c))) (sym (zeros-are p some m k whole))
     (fits-append (process-wide p some m k whole (take (m * rowLength p) c) here) (pad-fits ps bs (drop (m * rowLength p) c) (λ q i. g q (List·Memᴰ·tail i)) rest))
 
-pub padded-is-choice : (a : Architecture) (bs c : List ℕ) → ProperArchitecture a → Fits (rows (lowered (a .processes) bs)) c → IsChoice a (padded a bs c)
+pub padded-is-tables : (a : Architecture) (bs c : List ℕ) → ProperArchitecture a → Fits (rows (lowered (a .processes) bs)) c → IsTables a (padded a bs c)
 unfolding entries padded
-padded-is-choice a bs c good f = pad-fits (a .processes) bs c (good .front .processes-proper) f
+padded-is-tables a bs c good f = pad-fits (a .processes) bs c (good .front .processes-proper) f

@@ -1,4 +1,4 @@
--- The list of choices has every choice, in order: what is found first is the first choice that passes.
+-- The list of fillings has every choice, in order: what is found first is the first choice that passes.
 use mathlib.Core.Path.{_≡_, refl, sym, ap, _∙_, subst}
 use mathlib.Core.Bool.{Bool, true, false}
 use mathlib.Core.Logic.{_⊎_, inl, inr, ⊎-elim}
@@ -14,7 +14,7 @@ use Rattle.theory.specs.Lists.{filter, put, from}
 use Rattle.theory.proofs.ListLaws.{filter-sound, filter-complete, from-has, from-least}
 use Rattle.model.specs.Mask.{if, within}
 use Rattle.model.specs.Sheet.{Architecture, ProperProcess, ProperArchitecture}
-use Rattle.model.specs.Choice.{Entry, may, values, entries, Fits, done, also, Before, lower, later, choices}
+use Rattle.model.specs.Choice.{Entry, may, values, entries, Fits, done, also, Before, lower, later, fillings}
 use Rattle.model.specs.Computed.{first}
 use Rattle.model.proofs.SettlingOrder.{or-else, with-head, try, settle, settle-first}
 use Rattle.model.proofs.EntryLaws.{entries-have}
@@ -147,10 +147,10 @@ settle-some (e ∷ es) p c small q =
     (cons-first e es p (t .head) (t .tail) small (values-may e (t .head) (t .among)) (t .lower-fail)
     (settle-some es (λ c. p (t .head ∷ c)) (t .tail) (λ x i. small x (List·Memᴰ·tail i)) (t .rest)))
 
-pub first-none : (es : List Entry) (p : List ℕ → Bool) → AllSmall es → first p (choices es) ≡ none → (d : List ℕ) → Fits es d → p d ≡ false
+pub first-none : (es : List Entry) (p : List ℕ → Bool) → AllSmall es → first p (fillings es) ≡ none → (d : List ℕ) → Fits es d → p d ≡ false
 first-none es p small e = settle-none es p small (settle-first es p ∙ e)
 
-pub first-some : (es : List Entry) (p : List ℕ → Bool) (c : List ℕ) → AllSmall es → first p (choices es) ≡ some c → FirstOf es p c
+pub first-some : (es : List Entry) (p : List ℕ → Bool) (c : List ℕ) → AllSmall es → first p (fillings es) ≡ some c → FirstOf es p c
 first-some es p c small e = settle-some es p c small (settle-first es p ∙ e)
 
 -- ---- the entries of a proper sheet are bytes

@@ -1,4 +1,4 @@
--- The test `fits` is the proposition `Fits`; tables with fewer states stand for a choice.
+-- The test `fits` is the proposition `Fits`.
 use mathlib.Core.Path.{_≡_, refl, ap}
 use mathlib.Core.Bool.{true}
 use mathlib.Core.List.{List, [], _∷_, _++_}

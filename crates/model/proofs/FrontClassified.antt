@@ -1,27 +1,38 @@
 -- What reading the front answers is what the row of bytes is: up to position i it is the writing of the proper records read so far,
 -- and each test of the reader tells what the record at i makes of it.
 use mathlib.Core.Path.{_≡_, refl, ap, _∙_}
-use mathlib.Core.Bool.{true, false, not}
+use mathlib.Core.Bool.{true, false, _&&_, not}
 use mathlib.Core.List.{List, [], _∷_, _++_}
 use Prim.Native.Nat.{ℕ, zero, suc, _+_, _≤_, _<_}
 use native.Mathlib.Omega.{arith}
+use lib.Dec.{eqb}
 use lib.ListN.{length, length-append, drop}
-use borrow.Author.Tests.{not-true, not-false}
-use Rattle.model.specs.declared.Refusal.the-variants.{SheetTooShort, WrongMark, BadArchitecture, BadProcess}
-use Rattle.model.specs.Sheet.{Process, Architecture, withProcess, ProperFront}
-use Rattle.model.specs.Reading.{Reading, short, marked, AR, PR, arFault, prFault, architectureAt, processAt, Front, readProcess, readProcesses, readFront}
-use Rattle.model.specs.SheetFile.{processBytes, frontBytes, in-first-mark, in-architecture, in-process, wrong-first-mark, bad-architecture, bad-process}
-use Rattle.model.proofs.ProperSheet.{opening-proper, process-more}
-use Rattle.model.proofs.FaultsExact.{opening-faultless, process-faultless}
-use Rattle.model.proofs.BytesRead.{row-longer, drop-mark, drop-three, left-short, is-whole, markAt, mark-stands, mark-differs}
-use Rattle.model.proofs.RecordMore.{front-more, front-alone}
-use Rattle.model.proofs.Answered.{Answered, cut, faulty, not-both, tested, branched}
+use borrow.Author.Tests.{not-true, not-false, eqb-false}
+use Rattle.theory.proofs.Bools.{and-is}
+use Rattle.model.specs.declared.Refusal.the-variants.{SheetTooShort, WrongMark, BadArchitecture, BadProcess, BadTie}
+use Rattle.model.specs.Sheet.{Process, Tie, Architecture, withProcess, withTie, ProperFront}
+use Rattle.model.specs.Reading.{Reading, short, marked, tieMarked, AR, PR, SY, arFault, prFault, tieFault, architectureAt, processAt, tieAt, Front}
+use Rattle.model.specs.Reading.{readProcess, readProcesses, readTie, readTies, readFront}
+use Rattle.model.specs.SheetFile.{processBytes, tieBytes, frontBytes, in-first-mark, in-architecture, in-process, in-tie, wrong-first-mark, bad-architecture, bad-process, bad-tie}
+use Rattle.model.proofs.ProperSheet.{opening-proper, process-more, tie-more}
+use Rattle.model.proofs.FaultsExact.{opening-faultless, process-faultless, tie-faultless}
+use Rattle.model.proofs.BytesRead.{row-longer, drop-mark, drop-two, drop-three, left-short, is-whole, markAt, mark-stands, mark-differs}
+use Rattle.model.proofs.RecordMore.{front-more, front-tied, front-alone}
+use Rattle.model.proofs.Answered.{Answered, cut, faulty, not-both, tested, branched, followed}
 
--- up to its end the row is the writing of a proper front, and no further process follows
+-- up to its end the row is the writing of a proper front without ties, and no further process follows
+record ProcessesRead (b : List ℕ) (f : Front) : Type 0 where
+  good : ProperFront (f .architecture)
+  so-far : b ≡ frontBytes (f .architecture) ++ drop (f .end) b
+  untied : f .architecture .ties ≡ []
+  ended : length (f .architecture .processes) < 4 → marked b (f .end) PR ≡ false
+
+-- up to its end the row is the writing of a proper front, and no further process or tie follows
 pub record FrontRead (b : List ℕ) (f : Front) : Type 0 where
   pub good : ProperFront (f .architecture)
   pub so-far : b ≡ frontBytes (f .architecture) ++ drop (f .end) b
-  pub ended : length (f .architecture .processes) < 4 → marked b (f .end) PR ≡ false
+  pub ended : length (f .architecture .processes) < 4 → f .architecture .ties ≡ [] → marked b (f .end) PR ≡ false
+  pub tied : length (f .architecture .ties) < 3 → tieMarked (f .architecture) b (f .end) ≡ false
 
 module _ (b : List ℕ) where
   -- a whole PR at i
@@ -30,40 +41,76 @@ module _ (b : List ℕ) where
   process-whole i e l = mark-stands b i 0x50 0x52 e ∙ ap (λ (x : List ℕ). PR ++ x) (drop-three b i l)
 
   -- one PR, and then the rest
-  process-answered : (a : Architecture) (i : ℕ) (rest : Reading Front) → ProperFront a → length (a .processes) < 4 → b ≡ frontBytes a ++ drop i b → marked b i PR ≡ true
-      → (ProperFront (withProcess a (processAt b i)) → b ≡ frontBytes (withProcess a (processAt b i)) ++ drop (i + 5) b → Answered (FrontRead b) b rest)
-      → Answered (FrontRead b) b (readProcess a b i rest)
+  process-answered : (a : Architecture) (i : ℕ) (rest : Reading Front) → ProperFront a → length (a .processes) < 4 → a .ties ≡ [] → b ≡ frontBytes a ++ drop i b → marked b i PR ≡ true
+      → (ProperFront (withProcess a (processAt b i)) → b ≡ frontBytes (withProcess a (processAt b i)) ++ drop (i + 5) b → Answered (ProcessesRead b) b rest)
+      → Answered (ProcessesRead b) b (readProcess a b i rest)
   unfolding readProcess
-  process-answered a i rest g few e m go =
+  process-answered a i rest g few untied e m go =
       let p : Process = processAt b i in
       let row : i + 5 ≤ length b → b ≡ frontBytes a ++ processBytes p ++ drop (i + 5) b =
       λ l. row-longer (frontBytes a) (processBytes p) (drop i b) (drop (i + 5) b) b e (process-whole i m l) in
-      tested (FrontRead b) b SheetTooShort (short b i 5) _
+      tested (ProcessesRead b) b SheetTooShort (short b i 5) _
       (λ s. cut b (frontBytes a ++ PR ++ drop (i + 2) b) (row-longer (frontBytes a) PR (drop i b) (drop (i + 2) b) b e (mark-stands b i 0x50 0x52 m))
-      (in-process a (drop (i + 2) b) g few (left-short b i 5 (i + 2) 3 s (omega arith) (omega arith))))
-      (λ s. tested (FrontRead b) b BadProcess (prFault a p) _
-      (λ f. faulty (drop (i + 5) b) (omega arith) (row (is-whole b i 5 s)) (bad-process a p g few (λ more. not-both f (process-faultless a p more))))
-      (λ f. go (process-more a p g few f) (rw (front-more a p) (row (is-whole b i 5 s)))))
+      (in-process a (drop (i + 2) b) g few untied (left-short b i 5 (i + 2) 3 s (omega arith) (omega arith))))
+      (λ s. tested (ProcessesRead b) b BadProcess (prFault a p) _
+      (λ f. faulty (drop (i + 5) b) (omega arith) (row (is-whole b i 5 s)) (bad-process a p g few untied (λ more. not-both f (process-faultless a p more))))
+      (λ f. go (process-more a p g few f) (rw (front-more a p untied) (row (is-whole b i 5 s)))))
 
   -- at most k more PR
-  processes-answered : (k : ℕ) (a : Architecture) (i : ℕ) → ProperFront a → length (a .processes) + k ≡ 4 → b ≡ frontBytes a ++ drop i b
-      → Answered (FrontRead b) b (readProcesses k a b i)
+  processes-answered : (k : ℕ) (a : Architecture) (i : ℕ) → ProperFront a → length (a .processes) + k ≡ 4 → a .ties ≡ [] → b ≡ frontBytes a ++ drop i b
+      → Answered (ProcessesRead b) b (readProcesses k a b i)
   unfolding Answered readProcesses withProcess
-  processes-answered zero a i g few e = record { good = g; so-far = e; ended = λ l. absurd (omega arith) }
-  processes-answered (suc k) a i g few e =
+  processes-answered zero a i g few untied e = record { good = g; so-far = e; untied = untied; ended = λ l. absurd (omega arith) }
+  processes-answered (suc k) a i g few untied e =
       let p : Process = processAt b i in
-      branched (FrontRead b) b (marked b i PR) _ _
-      (λ m. process-answered a i _ g (omega arith) e m
-      (λ more next. processes-answered k (withProcess a p) (i + 5) more (omega (arith, length-append (a .processes) (p ∷ []))) next))
-      (λ m. record { good = g; so-far = e; ended = λ l. m })
+      branched (ProcessesRead b) b (marked b i PR) _ _
+      (λ m. process-answered a i _ g (omega arith) untied e m
+      (λ more next. processes-answered k (withProcess a p) (i + 5) more (omega (arith, length-append (a .processes) (p ∷ []))) untied next))
+      (λ m. record { good = g; so-far = e; untied = untied; ended = λ l. m })
 
-  -- AR, then the processes
+  -- a whole SY at i
+  tie-whole : (i : ℕ) → marked b i SY ≡ true → i + 4 ≤ length b → drop i b ≡ tieBytes (tieAt b i) ++ drop (i + 4) b
+  unfolding tieBytes
+  tie-whole i e l = mark-stands b i 0x53 0x59 e ∙ ap (λ (x : List ℕ). SY ++ x) (drop-two b i l)
+
+  -- one SY, and then the rest
+  tie-answered : (a : Architecture) (i : ℕ) (rest : Reading Front) → ProperFront a → 1 ≤ length (a .processes) → length (a .ties) < 3 → b ≡ frontBytes a ++ drop i b → marked b i SY ≡ true
+      → (ProperFront (withTie a (tieAt b i)) → b ≡ frontBytes (withTie a (tieAt b i)) ++ drop (i + 4) b → Answered (FrontRead b) b rest)
+      → Answered (FrontRead b) b (readTie a b i rest)
+  unfolding readTie
+  tie-answered a i rest g some few e m go =
+      let t : Tie = tieAt b i in
+      let row : i + 4 ≤ length b → b ≡ frontBytes a ++ tieBytes t ++ drop (i + 4) b =
+      λ l. row-longer (frontBytes a) (tieBytes t) (drop i b) (drop (i + 4) b) b e (tie-whole i m l) in
+      tested (FrontRead b) b SheetTooShort (short b i 4) _
+      (λ s. cut b (frontBytes a ++ SY ++ drop (i + 2) b) (row-longer (frontBytes a) SY (drop i b) (drop (i + 2) b) b e (mark-stands b i 0x53 0x59 m))
+      (in-tie a (drop (i + 2) b) g some few (left-short b i 4 (i + 2) 2 s (omega arith) (omega arith))))
+      (λ s. tested (FrontRead b) b BadTie (tieFault (a .processes) t) _
+      (λ f. faulty (drop (i + 4) b) (omega arith) (row (is-whole b i 4 s)) (bad-tie a t g some few (λ more. not-both f (tie-faultless a t more))))
+      (λ f. go (tie-more a t g few f) (rw (front-tied a t) (row (is-whole b i 4 s)))))
+
+  -- at most k more SY
+  ties-answered : (k : ℕ) (a : Architecture) (i : ℕ) → ProperFront a → length (a .ties) + k ≡ 3 → b ≡ frontBytes a ++ drop i b
+      → (length (a .processes) < 4 → a .ties ≡ [] → marked b i PR ≡ false) → Answered (FrontRead b) b (readTies k a b i)
+  unfolding Answered readTies withTie tieMarked
+  ties-answered zero a i g few e ended = record { good = g; so-far = e; ended = ended; tied = λ l. absurd (omega arith) }
+  ties-answered (suc k) a i g few e ended =
+      let t : Tie = tieAt b i in
+      branched (FrontRead b) b (tieMarked a b i) _ _
+      (λ m. let h = and-is (marked b i SY) (not (eqb (length (a .processes)) 0)) .0 m in
+      let several : ¬ (length (a .processes) ≡ 0) = eqb-false _ _ (not-true _ (h .1)) in
+      tie-answered a i _ g (omega arith) (omega arith) e (h .0)
+      (λ more next. ties-answered k (withTie a t) (i + 4) more (omega (arith, length-append (a .ties) (t ∷ []))) next
+      (λ l none. absurd (omega (arith, length-append (a .ties) (t ∷ []), ap length none)))))
+      (λ m. record { good = g; so-far = e; ended = ended; tied = λ l. m })
+
+  -- AR, then the processes, then the ties
   pub front-answered : Answered (FrontRead b) b (readFront b)
   unfolding readFront
   front-answered =
       let a : Architecture = architectureAt b in
       let row : marked b 0 AR ≡ true → 5 ≤ length b → b ≡ frontBytes a ++ drop 5 b =
-      λ m l. mark-stands b 0 0x41 0x52 m ∙ ap (λ (x : List ℕ). AR ++ x) (drop-three b 0 l) ∙ rw (front-alone a refl) in
+      λ m l. mark-stands b 0 0x41 0x52 m ∙ ap (λ (x : List ℕ). AR ++ x) (drop-three b 0 l) ∙ rw (front-alone a refl refl) in
       tested (FrontRead b) b SheetTooShort (short b 0 2) _
       (λ s. cut b b refl (in-first-mark b (left-short b 0 2 0 2 s (omega arith) (omega arith))))
       (λ s. tested (FrontRead b) b WrongMark (not (marked b 0 AR)) _
@@ -71,5 +118,7 @@ module _ (b : List ℕ) where
       (λ m. tested (FrontRead b) b SheetTooShort (short b 0 5) _
       (λ s. cut b (AR ++ drop 2 b) (mark-stands b 0 0x41 0x52 (not-false _ m)) (in-architecture (drop 2 b) (left-short b 0 5 2 3 s (omega arith) (omega arith))))
       (λ s. tested (FrontRead b) b BadArchitecture (arFault a) _
-      (λ f. faulty (drop 5 b) (omega arith) (row (not-false _ m) (is-whole b 0 5 s)) (bad-architecture a refl (λ g. not-both f (opening-faultless a g))))
-      (λ f. processes-answered 4 a 5 (opening-proper a refl f) refl (row (not-false _ m) (is-whole b 0 5 s))))))
+      (λ f. faulty (drop 5 b) (omega arith) (row (not-false _ m) (is-whole b 0 5 s)) (bad-architecture a refl refl (λ g. not-both f (opening-faultless a g))))
+      (λ f. followed (ProcessesRead b) (FrontRead b) b (readProcesses 4 a b 5) _
+      (processes-answered 4 a 5 (opening-proper a refl refl f) refl refl (row (not-false _ m) (is-whole b 0 5 s)))
+      (λ u h. ties-answered 3 (u .architecture) (u .end) (h .good) (omega (arith, ap length (h .untied))) (h .so-far) (λ l none. h .ended l))))))

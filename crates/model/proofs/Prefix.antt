@@ -1,4 +1,4 @@
--- Reading a sheet looks at no byte behind the first 418, one more than the longest proper sheet has: who reads that many gets the answer for the whole file.
+-- Reading a sheet looks at no byte behind one more than the longest proper sheet has: who reads that many gets the answer for the whole file.
 use mathlib.Core.Path.{_≡_, refl, sym, ap, _∙_}
 use mathlib.Core.Bool.{Bool, _&&_, _||_, not}
 use mathlib.Core.Logic.{⊎-elim}
@@ -11,14 +11,15 @@ use lib.Seq.{getD-take}
 use borrow.Author.Tests.{ltb-true, ltb-false, lt-ltb, le-ltb}
 use Rattle.theory.proofs.Bools.{bool-cases}
 use Rattle.model.specs.declared.Refusal.{Refusal}
-use Rattle.model.specs.declared.Refusal.the-variants.{SheetTooShort, WrongMark, BadArchitecture, BadProcess, NoOwnerOrTooMany, BadAutomaton, BadEdge}
+use Rattle.model.specs.declared.Refusal.the-variants.{SheetTooShort, WrongMark, BadArchitecture, BadProcess, NoOwnerOrTooMany, BadAutomaton, BadEdge, BadTie}
 use Rattle.model.specs.Mask.{if}
-use Rattle.model.specs.Sheet.{Process, Architecture, Sheet, withProcess}
-use Rattle.model.specs.Reading.{Reading, refused, proper, byte, short, marked, edgeMarked, EN, EX, ED, AU, PR}
-use Rattle.model.specs.Reading.{AR, arFault, prFault, allFault, auFault, edFault, architectureAt, processAt, edgeAt, Front}
-use Rattle.model.specs.Reading.{readEnd, readEdge, readEdges, readAutomaton, readProcess, readProcesses, readFront, readSheet, refuse_when_else_, _then_}
+use Rattle.model.specs.Sheet.{Process, Tie, Architecture, Sheet, withProcess, withTie}
+use Rattle.model.specs.Reading.{Reading, refused, proper, byte, short, marked, tieMarked, edgeMarked, EN, EX, ED, AU, SY, PR}
+use Rattle.model.specs.Reading.{AR, arFault, prFault, tieFault, allFault, auFault, edFault, architectureAt, processAt, tieAt, edgeAt, Front}
+use Rattle.model.specs.Reading.{readEnd, readEdge, readEdges, readAutomaton, readProcess, readProcesses, readTie, readTies, readFront, readSheet, refuse_when_else_, _then_}
+use Rattle.model.specs.SheetFile.{longestSheet}
 use Rattle.model.specs.Calls.{reply, checkOf, findSheet, findOf}
-use Rattle.model.proofs.ProperSheet.{front-read}
+use Rattle.model.proofs.ProperSheet.{front-read, processes-end}
 
 -- ---- equal tests with equal rests are read alike
 infixr 20 alike_when_else_
@@ -37,29 +38,32 @@ unless_read_else_ p q r = cc
 test-same : (x m y n : ℕ) → (x < m → y < n) → (m ≤ x → n ≤ y) → ltb x m ≡ ltb y n
 test-same x m y n f g = ⊎-elim (λ e. e ∙ sym (lt-ltb y n (f (ltb-true x m e)))) (λ e. e ∙ sym (le-ltb y n (g (ltb-false x m e)))) (bool-cases (ltb x m))
 
--- ---- what reading asks of a sheet, below 418
-record Same (a b : List ℕ) : Type 0 where
-  bytes : (i : ℕ) → i < 418 → byte a i ≡ byte b i
-  ends : (i : ℕ) → i ≤ 418 → ltb (length a) i ≡ ltb (length b) i
-  follows : (i : ℕ) → i < 418 → ltb i (length a) ≡ ltb i (length b)
+-- ---- what reading asks of a sheet, below this
+abbrev enough : ℕ
+enough = suc longestSheet
 
-taken-same : (b : List ℕ) → Same (take 418 b) b
+record Same (a b : List ℕ) : Type 0 where
+  bytes : (i : ℕ) → i < enough → byte a i ≡ byte b i
+  ends : (i : ℕ) → i ≤ enough → ltb (length a) i ≡ ltb (length b) i
+  follows : (i : ℕ) → i < enough → ltb i (length a) ≡ ltb i (length b)
+
+taken-same : (b : List ℕ) → Same (take enough b) b
 taken-same b = record {
-  bytes = λ i l. getD-take 418 b i 0 l;
-  ends = λ i l. test-same (length (take 418 b)) i (length b) i (λ h. omega (arith, length-take 418 b)) (λ h. omega (arith, length-take 418 b));
-  follows = λ i l. test-same i (length (take 418 b)) i (length b) (λ h. omega (arith, length-take 418 b)) (λ h. omega (arith, length-take 418 b));
+  bytes = λ i l. getD-take enough b i 0 l;
+  ends = λ i l. test-same (length (take enough b)) i (length b) i (λ h. omega (arith, length-take enough b)) (λ h. omega (arith, length-take enough b));
+  follows = λ i l. test-same i (length (take enough b)) i (length b) (λ h. omega (arith, length-take enough b)) (λ h. omega (arith, length-take enough b));
 }
 
 module _ (a b : List ℕ) (same : Same a b) where
-  short-same : (i n : ℕ) → i + n ≤ 418 → short a i n ≡ short b i n
+  short-same : (i n : ℕ) → i + n ≤ enough → short a i n ≡ short b i n
   unfolding short
   short-same i n l = same .ends (i + n) l
 
-  marked-same : (i : ℕ) (m : List ℕ) → i + 2 ≤ 418 → marked a i m ≡ marked b i m
+  marked-same : (i : ℕ) (m : List ℕ) → i + 2 ≤ enough → marked a i m ≡ marked b i m
   unfolding marked
   marked-same i m l = λ j. not (short-same i 2 l j) && eqb (same .bytes i (omega arith) j) (byte m 0) && eqb (same .bytes (i + 1) (omega arith) j) (byte m 1)
 
-  edge-marked-same : (i : ℕ) → i + 2 ≤ 418 → edgeMarked a i ≡ edgeMarked b i
+  edge-marked-same : (i : ℕ) → i + 2 ≤ enough → edgeMarked a i ≡ edgeMarked b i
   unfolding edgeMarked
   edge-marked-same i l = λ j. marked-same i ED l j || marked-same i EX l j
 
@@ -70,11 +74,11 @@ module _ (a b : List ℕ) (same : Same a b) where
     fourth : byte a (i + 4) ≡ byte b (i + 4)
     fifth : byte a (i + 5) ≡ byte b (i + 5)
 
-  fields : (i : ℕ) → i + 6 ≤ 418 → Fields i
+  fields : (i : ℕ) → i + 6 ≤ enough → Fields i
   fields i l = record { second = same .bytes (i + 2) (omega arith); third = same .bytes (i + 3) (omega arith); fourth = same .bytes (i + 4) (omega arith); fifth = same .bytes (i + 5) (omega arith) }
 
   -- EN, with no byte after it
-  end-same : (i : ℕ) → i ≤ 415 → readEnd a i ≡ readEnd b i
+  end-same : (i : ℕ) → i + 3 ≤ enough → readEnd a i ≡ readEnd b i
   unfolding readEnd
   end-same i l =
       alike SheetTooShort when short-same i 2 (omega arith) else
@@ -83,7 +87,7 @@ module _ (a b : List ℕ) (same : Same a b) where
       refl
 
   -- at most k more edges of 6 bytes, then EN
-  edges-same : (variables states k i : ℕ) → i + 6 * k ≤ 415 → readEdges variables states k a i ≡ readEdges variables states k b i
+  edges-same : (variables states k i : ℕ) → i + 6 * k + 3 ≤ enough → readEdges variables states k a i ≡ readEdges variables states k b i
   unfolding readEdges readEdge
   edges-same variables states zero i l = end-same i (omega arith)
   edges-same variables states (suc k) i l =
@@ -95,7 +99,7 @@ module _ (a b : List ℕ) (same : Same a b) where
       then-same (edges-same variables states k (i + 6) (omega arith)) (λ j es. proper (own j ∷ es))
 
   -- AU, then at most 64 edges
-  automaton-same : (u : Architecture) (i : ℕ) → i ≤ 25 → readAutomaton u a i ≡ readAutomaton u b i
+  automaton-same : (u : Architecture) (i : ℕ) → i ≤ 37 → readAutomaton u a i ≡ readAutomaton u b i
   unfolding readAutomaton
   automaton-same u i l =
       let f : Fields i = fields i (omega arith) in
@@ -120,19 +124,41 @@ module _ (a b : List ℕ) (same : Same a b) where
       alike BadProcess when ap (prFault u) own else
       processes-same k (withProcess u (processAt a i)) (i + 5) (omega arith) ∙ ap (λ (p : Process). readProcesses k (withProcess u p) b (i + 5)) own
 
+  -- at most k more SY of 4 bytes
+  ties-same : (k : ℕ) (u : Architecture) (i : ℕ) → i + 4 * k ≤ 37 → readTies k u a i ≡ readTies k u b i
+  unfolding readTies readTie tieMarked
+  ties-same zero u i l = refl
+  ties-same (suc k) u i l =
+      let f : Fields i = fields i (omega arith) in
+      let own : tieAt a i ≡ tieAt b i = λ j. record { left = f .second j; right = f .third j } in
+      unless ap (λ (t : Bool). t && not (eqb (length (u .processes)) 0)) (marked-same i SY (omega arith)) read refl else
+      alike SheetTooShort when short-same i 4 (omega arith) else
+      alike BadTie when ap (tieFault (u .processes)) own else
+      ties-same k (withTie u (tieAt a i)) (i + 4) (omega arith) ∙ ap (λ (t : Tie). readTies k (withTie u t) b (i + 4)) own
+
+  -- the processes end within 25 bytes, so that the ties behind them are read alike
+  tied : List ℕ → Front → Reading Front
+  tied x f = readTies 3 (f .architecture) x (f .end)
+
+  tied-same : (m : Reading Front) → ((f : Front) → m ≡ proper f → f .end ≤ 25) → _then_ m (tied a) ≡ _then_ m (tied b)
+  unfolding _then_ tied
+  tied-same (refused r) l = refl
+  tied-same (proper f) l = ties-same 3 (f .architecture) (f .end) (omega (arith, l f refl))
+
   -- the front
   front-same : readFront a ≡ readFront b
-  unfolding readFront
+  unfolding readFront tied
   front-same =
       let f : Fields 0 = fields 0 (omega arith) in
-      let own : architectureAt a ≡ architectureAt b = λ j. record { variables = f .second j; environment = f .third j; root = f .fourth j; processes = [] } in
+      let own : architectureAt a ≡ architectureAt b = λ j. record { variables = f .second j; environment = f .third j; root = f .fourth j; processes = []; ties = [] } in
       alike SheetTooShort when short-same 0 2 (omega arith) else
       alike WrongMark when ap not (marked-same 0 AR (omega arith)) else
       alike SheetTooShort when short-same 0 5 (omega arith) else
       alike BadArchitecture when ap arFault own else
-      processes-same 4 (architectureAt a) 5 (omega arith) ∙ ap (λ (u : Architecture). readProcesses 4 u b 5) own
+      ap (λ (m : Reading Front). _then_ m (tied a)) (processes-same 4 (architectureAt a) 5 (omega arith) ∙ ap (λ (u : Architecture). readProcesses 4 u b 5) own)
+      ∙ tied-same (readProcesses 4 (architectureAt b) b 5) (λ f e. processes-end 4 (architectureAt b) b 5 f e .0)
 
-  -- a front ends within 25 bytes, so that what is behind it is read alike
+  -- a front ends within 37 bytes, so that what is behind it is read alike
   behind : List ℕ → Front → Reading Sheet
   behind x f = readAutomaton (f .architecture) x (f .end) then λ u. proper record { architecture = f .architecture; automaton = u }
 
@@ -145,13 +171,13 @@ module _ (a b : List ℕ) (same : Same a b) where
   unfolding readSheet behind
   sheet-same = ap (λ (k : Reading Front). _then_ k (behind a)) front-same ∙ behind-same (readFront b) refl
 
-pub read-prefix : (b : List ℕ) → readSheet (take 418 b) ≡ readSheet b
-read-prefix b = sheet-same (take 418 b) b (taken-same b)
+pub read-prefix : (b : List ℕ) → readSheet (take enough b) ≡ readSheet b
+read-prefix b = sheet-same (take enough b) b (taken-same b)
 
-pub prefix : (b : List ℕ) → checkOf (take 418 b) ≡ checkOf b
+pub prefix : (b : List ℕ) → checkOf (take enough b) ≡ checkOf b
 unfolding checkOf
 prefix b = ap reply (read-prefix b)
 
-pub find-prefix : (b book ann : List ℕ) → findOf (take 418 b) book ann ≡ findOf b book ann
+pub find-prefix : (b book ann : List ℕ) → findOf (take enough b) book ann ≡ findOf b book ann
 unfolding findOf findSheet
 find-prefix b book ann = rw (read-prefix b)

@@ -1,24 +1,25 @@
 -- A front that is read is a proper one, and so is a sheet; neither is long.
-use mathlib.Core.Path.{_≡_, refl, sym, ap, subst}
+use mathlib.Core.Path.{_≡_, refl, sym, ap, _∙_, subst}
 use mathlib.Core.Bool.{Bool, true, false, _||_, not, true≢false}
 use mathlib.Core.Logic.{_⊎_, inl, inr, ⊎-elim}
 use mathlib.Core.List.{List, [], _∷_, _++_, List·Memᴰ, List·Memᴰ·not-nil, List·Memᴰ·cases-cons, List·Memᴰ·eq-of-singleton, List·Memᴰ·append-cases}
 use Prim.Native.Nat.{ℕ, zero, suc, _+_, _*_, _-_, _^_, _≤_, _<_}
 use native.Mathlib.Omega.{arith}
 use lib.Dec.{eqb, ltb}
-use lib.ListN.{length, length-append}
-use borrow.Author.Tests.{leb-false, ltb-false, eqb-false}
+use lib.ListN.{length, length-append, List·getD-append}
+use borrow.Author.Tests.{leb-false, ltb-false, eqb-false, eqb-true, not-false}
 use Rattle.model.specs.declared.Refusal.{Refusal}
-use Rattle.model.specs.declared.Refusal.the-variants.{SheetTooShort, WrongMark, BadArchitecture, BadProcess, NoOwnerOrTooMany, BadAutomaton, BadEdge}
+use Rattle.model.specs.declared.Refusal.the-variants.{SheetTooShort, WrongMark, BadArchitecture, BadProcess, NoOwnerOrTooMany, BadAutomaton, BadEdge, BadTie}
 use lib.Bits.{and-comm}
 use Rattle.theory.specs.Lists.{empty, before, all, from}
 use Rattle.theory.proofs.ListLaws.{all-is, from-has, pairwise-append}
 use Rattle.model.specs.Mask.{if, share, beyond, count}
-use Rattle.model.specs.Sheet.{Process, Architecture, Edge, Automaton, Sheet, withProcess, owned, composedStates, Apart}
-use Rattle.model.specs.Sheet.{ProperProcess, ProperProcesses, OutputsApart, ProperFront, ProperArchitecture, ProperEdge, ProperEdges, ProperAutomaton, ProperSheet}
-use Rattle.model.specs.Reading.{Reading, refused, proper, byte, short, marked, edgeMarked, EN, AU, PR, AR}
-use Rattle.model.specs.Reading.{arFault, taken, fieldFault, prFault, allFault, auFault, edFault, architectureAt, processAt, edgeAt, Front}
-use Rattle.model.specs.Reading.{readEnd, readEdge, readEdges, readAutomaton, readProcess, readProcesses, readFront, readSheet, refuse_when_else_, _then_}
+use Rattle.model.specs.Sheet.{Process, Tie, Architecture, Edge, Automaton, Sheet, withProcess, withTie, nobody, processNo, owned, composedStates, Apart}
+use Rattle.model.specs.Sheet.{ProperProcess, ProperProcesses, OutputsApart, SameShape, ProperTie, ProperFront, ProperArchitecture, ProperEdge, ProperEdges, ProperAutomaton, ProperSheet}
+use Rattle.model.specs.Reading.{Reading, refused, proper, byte, short, marked, tieMarked, edgeMarked, EN, AU, PR, AR}
+use Rattle.model.specs.Reading.{arFault, taken, fieldFault, prFault, unlike, tieFault, allFault, auFault, edFault, architectureAt, processAt, tieAt, edgeAt, Front}
+use Rattle.model.specs.Reading.{readEnd, readEdge, readEdges, readAutomaton, readProcess, readProcesses, readTie, readTies, readFront, readSheet, refuse_when_else_, _then_}
+use Rattle.model.specs.SheetFile.{longestSheet}
 
 -- ---- the first fault in order
 pub passes : {A : Type 0} (r : Refusal) (t : Bool) (k : Reading A) {a : A} → refuse_when_else_ r t k ≡ proper a → (t ≡ false) × (k ≡ proper a)
@@ -104,10 +105,10 @@ no-edge-proper variables u none f =
       edges-proper = rw none (λ x m. absurd (List·Memᴰ·not-nil m));
     }
 
--- AR, with no process behind it yet
-pub opening-proper : (a : Architecture) → a .processes ≡ [] → arFault a ≡ false → ProperFront a
+-- AR, with no process and no tie behind it yet
+pub opening-proper : (a : Architecture) → a .processes ≡ [] → a .ties ≡ [] → arFault a ≡ false → ProperFront a
 unfolding arFault
-opening-proper a none f =
+opening-proper a none untied f =
     let h₁ = or-false _ _ f in
     let h₂ = or-false _ _ (h₁ .0) in
     let h₃ = or-false _ _ (h₂ .0) in
@@ -119,6 +120,8 @@ opening-proper a none f =
       few-processes = omega (arith, ap length none);
       processes-proper = rw none (λ p m. absurd (List·Memᴰ·not-nil m));
       outputs-apart = rw none empty;
+      few-ties = omega (arith, ap length untied);
+      ties-proper = rw untied (λ t m. absurd (List·Memᴰ·not-nil m));
     }
 
 -- ---- one process more
@@ -133,6 +136,15 @@ not-taken [] p f q m = absurd (List·Memᴰ·not-nil m)
 not-taken (x ∷ ps) p f q m =
     let h = or-false (share (p .outputs) (x .outputs)) (taken ps p) f in
     ⊎-elim (λ (e : q ≡ x). rw e (apart-sym (p .outputs) (x .outputs) (h .0))) (λ i. not-taken ps p (h .1) q i) (List·Memᴰ·cases-cons m)
+
+-- a tie of processes is one still among more
+tie-stays : (ps : List Process) (p : Process) (t : Tie) → ProperTie ps t → ProperTie (ps ++ (p ∷ [])) t
+tie-stays ps p t g = record {
+  left-known = omega (arith, length-append ps (p ∷ []), g .left-known);
+  right-known = omega (arith, length-append ps (p ∷ []), g .right-known);
+  two = g .two;
+  shape = rw (List·getD-append ps (p ∷ []) nobody (t .left) (g .left-known), List·getD-append ps (p ∷ []) nobody (t .right) (g .right-known)) (g .shape);
+}
 
 pub process-more : (a : Architecture) (p : Process) → ProperFront a → length (a .processes) < 4 → prFault a p ≡ false → ProperFront (withProcess a p)
 unfolding withProcess prFault
@@ -149,36 +161,107 @@ process-more a p g few f =
       outputs-apart =
           pairwise-append (g .outputs-apart) (before (λ q m. absurd (List·Memᴰ·not-nil m)) empty)
           (λ q r i j. subst (λ (x : Process). Apart (q .outputs) (x .outputs)) (sym (List·Memᴰ·eq-of-singleton j)) (not-taken (a .processes) p (h .1) q i));
+      few-ties = g .few-ties;
+      ties-proper = λ t m. tie-stays (a .processes) p t (g .ties-proper t m);
     }
 
+-- ---- one tie more
+equal-tests : (m n : ℕ) → not (eqb m n) ≡ false → m ≡ n
+equal-tests m n e = eqb-true m n (not-false (eqb m n) e)
+
+alike : (p q : Process) → unlike p q ≡ false → SameShape p q
+unfolding unlike
+alike p q f =
+    let h₁ = or-false _ _ f in
+    let h₂ = or-false _ _ (h₁ .0) in
+    record { bounds = equal-tests _ _ (h₂ .0); inputs = equal-tests _ _ (h₂ .1); outputs = equal-tests _ _ (h₁ .1) }
+
+tie-proper : (ps : List Process) (t : Tie) → tieFault ps t ≡ false → ProperTie ps t
+unfolding tieFault
+tie-proper ps t f =
+    let h₁ = or-false _ (unlike (processNo ps (t .left)) (processNo ps (t .right))) f in
+    let h₂ = or-false _ _ (h₁ .0) in
+    let h₃ = or-false _ _ (h₂ .0) in
+    record { left-known = leb-false _ _ (h₃ .0); right-known = leb-false _ _ (h₃ .1); two = eqb-false _ _ (h₂ .1); shape = alike _ _ (h₁ .1) }
+
+pub tie-more : (a : Architecture) (t : Tie) → ProperFront a → length (a .ties) < 3 → tieFault (a .processes) t ≡ false → ProperFront (withTie a t)
+unfolding withTie
+tie-more a t g few f = record {
+  few-variables = g .few-variables;
+  few-environment = g .few-environment;
+  environment-known = g .environment-known;
+  root-known = g .root-known;
+  few-processes = g .few-processes;
+  processes-proper = g .processes-proper;
+  outputs-apart = g .outputs-apart;
+  few-ties = omega (arith, length-append (a .ties) (t ∷ []));
+  ties-proper = λ u m. ⊎-elim (λ i. g .ties-proper u i) (λ i. subst (ProperTie (a .processes)) (sym (List·Memᴰ·eq-of-singleton i)) (tie-proper (a .processes) t f))
+      (List·Memᴰ·append-cases (a .ties) m);
+}
+
 -- ---- the front: at most k more processes of 5 bytes
-processes-read : (k : ℕ) (a : Architecture) (b : List ℕ) (i : ℕ) (f : Front) → ProperFront a → length (a .processes) + k ≤ 4
-    → readProcesses k a b i ≡ proper f → ProperFront (f .architecture) × (f .end ≤ i + 5 * k)
+-- where it ends, and that the ties are as they were
+pub processes-end : (k : ℕ) (a : Architecture) (b : List ℕ) (i : ℕ) (f : Front) → readProcesses k a b i ≡ proper f → (f .end ≤ i + 5 * k) × (f .architecture .ties ≡ a .ties)
 unfolding readProcesses readProcess withProcess
-processes-read zero a b i f g few e = let same = same-proper _ f e in (subst (λ (x : Front). ProperFront (x .architecture)) same g, omega (arith, ap (λ (x : Front). x .end) same))
+processes-end zero a b i f e = let same = same-proper _ f e in (omega (arith, ap (λ (x : Front). x .end) same), ap (λ (x : Front). x .architecture .ties) (sym same))
+processes-end (suc k) a b i f e =
+    by (processes-end k (withProcess a (processAt b i)) b (i + 5) f)
+    (if-cases (marked b i PR) (readProcess a b i (readProcesses k (withProcess a (processAt b i)) b (i + 5))) (proper record { architecture = a; end = i }) e)
+  where
+    by : (readProcesses k (withProcess a (processAt b i)) b (i + 5) ≡ proper f → (f .end ≤ i + 5 + 5 * k) × (f .architecture .ties ≡ a .ties))
+        → (readProcess a b i (readProcesses k (withProcess a (processAt b i)) b (i + 5)) ≡ proper f) ⊎ (proper record { architecture = a; end = i } ≡ proper f)
+        → (f .end ≤ i + 5 * suc k) × (f .architecture .ties ≡ a .ties)
+    by ih (inl q) = let rest = ih (passes BadProcess (prFault a (processAt b i)) _ (passes SheetTooShort (short b i 5) _ q .1) .1) in (omega (arith, rest .0), rest .1)
+    by ih (inr q) = let same = same-proper _ f q in (omega (arith, ap (λ (x : Front). x .end) same), ap (λ (x : Front). x .architecture .ties) (sym same))
+
+processes-read : (k : ℕ) (a : Architecture) (b : List ℕ) (i : ℕ) (f : Front) → ProperFront a → length (a .processes) + k ≤ 4 → readProcesses k a b i ≡ proper f → ProperFront (f .architecture)
+unfolding readProcesses readProcess withProcess
+processes-read zero a b i f g few e = subst (λ (x : Front). ProperFront (x .architecture)) (same-proper _ f e) g
 processes-read (suc k) a b i f g few e =
     by (λ g e. processes-read k (withProcess a (processAt b i)) b (i + 5) f g (omega (arith, length-append (a .processes) (processAt b i ∷ []))) e)
     (if-cases (marked b i PR) (readProcess a b i (readProcesses k (withProcess a (processAt b i)) b (i + 5))) (proper record { architecture = a; end = i }) e)
   where
-    by : (ProperFront (withProcess a (processAt b i)) → readProcesses k (withProcess a (processAt b i)) b (i + 5) ≡ proper f → ProperFront (f .architecture) × (f .end ≤ i + 5 + 5 * k))
+    by : (ProperFront (withProcess a (processAt b i)) → readProcesses k (withProcess a (processAt b i)) b (i + 5) ≡ proper f → ProperFront (f .architecture))
         → (readProcess a b i (readProcesses k (withProcess a (processAt b i)) b (i + 5)) ≡ proper f) ⊎ (proper record { architecture = a; end = i } ≡ proper f)
-        → ProperFront (f .architecture) × (f .end ≤ i + 5 * suc k)
+        → ProperFront (f .architecture)
     by ih (inl q) =
         let h₁ = passes SheetTooShort (short b i 5) _ q in
         let h₂ = passes BadProcess (prFault a (processAt b i)) _ (h₁ .1) in
-        let rest = ih (process-more a (processAt b i) g (omega arith) (h₂ .0)) (h₂ .1) in
+        ih (process-more a (processAt b i) g (omega arith) (h₂ .0)) (h₂ .1)
+    by ih (inr q) = subst (λ (x : Front). ProperFront (x .architecture)) (same-proper _ f q) g
+
+-- at most k more ties of 4 bytes
+ties-read : (k : ℕ) (a : Architecture) (b : List ℕ) (i : ℕ) (f : Front) → ProperFront a → length (a .ties) + k ≤ 3
+    → readTies k a b i ≡ proper f → ProperFront (f .architecture) × (f .end ≤ i + 4 * k)
+unfolding readTies readTie withTie
+ties-read zero a b i f g few e = let same = same-proper _ f e in (subst (λ (x : Front). ProperFront (x .architecture)) same g, omega (arith, ap (λ (x : Front). x .end) same))
+ties-read (suc k) a b i f g few e =
+    by (λ g e. ties-read k (withTie a (tieAt b i)) b (i + 4) f g (omega (arith, length-append (a .ties) (tieAt b i ∷ []))) e)
+    (if-cases (tieMarked a b i) (readTie a b i (readTies k (withTie a (tieAt b i)) b (i + 4))) (proper record { architecture = a; end = i }) e)
+  where
+    by : (ProperFront (withTie a (tieAt b i)) → readTies k (withTie a (tieAt b i)) b (i + 4) ≡ proper f → ProperFront (f .architecture) × (f .end ≤ i + 4 + 4 * k))
+        → (readTie a b i (readTies k (withTie a (tieAt b i)) b (i + 4)) ≡ proper f) ⊎ (proper record { architecture = a; end = i } ≡ proper f)
+        → ProperFront (f .architecture) × (f .end ≤ i + 4 * suc k)
+    by ih (inl q) =
+        let h₁ = passes SheetTooShort (short b i 4) _ q in
+        let h₂ = passes BadTie (tieFault (a .processes) (tieAt b i)) _ (h₁ .1) in
+        let rest = ih (tie-more a (tieAt b i) g (omega arith) (h₂ .0)) (h₂ .1) in
         (rest .0, omega arith)
     by ih (inr q) = let same = same-proper _ f q in (subst (λ (x : Front). ProperFront (x .architecture)) same g, omega (arith, ap (λ (x : Front). x .end) same))
 
--- 5 bytes of AR, then at most 4 processes
-pub front-read : (b : List ℕ) (f : Front) → readFront b ≡ proper f → ProperFront (f .architecture) × (f .end ≤ 25)
+-- 5 bytes of AR, then at most 4 processes and 3 ties
+pub front-read : (b : List ℕ) (f : Front) → readFront b ≡ proper f → ProperFront (f .architecture) × (f .end ≤ 37)
 unfolding readFront
 front-read b f e =
     let h₁ = passes SheetTooShort (short b 0 2) _ e in
     let h₂ = passes WrongMark (not (marked b 0 AR)) _ (h₁ .1) in
     let h₃ = passes SheetTooShort (short b 0 5) _ (h₂ .1) in
     let h₄ = passes BadArchitecture (arFault (architectureAt b)) _ (h₃ .1) in
-    processes-read 4 (architectureAt b) b 5 f (opening-proper (architectureAt b) refl (h₄ .0)) (omega arith) (h₄ .1)
+    let h₅ = goes-on (readProcesses 4 (architectureAt b) b 5) _ (h₄ .1) in
+    let front = processes-read 4 (architectureAt b) b 5 (h₅ .0) (opening-proper (architectureAt b) refl refl (h₄ .0)) (omega arith) (h₅ .1) in
+    let end = processes-end 4 (architectureAt b) b 5 (h₅ .0) (h₅ .1) in
+    let ties = ties-read 3 (h₅ .0 .architecture) b (h₅ .0 .end) f front (omega (arith, ap length (end .1))) (h₅ .2) in
+    (ties .0, omega (arith, end .0, ties .1))
 
 -- ---- behind the front
 -- EN is the last: no byte stands behind it
@@ -233,10 +316,6 @@ front-whole a g some f =
           (from-has (a .variables - a .environment) (a .environment) i l (omega arith));
       few-composed = ltb-false _ _ (h .1);
     }
-  where
-    not-false : (t : Bool) → not t ≡ false → t ≡ true
-    not-false true e = refl
-    not-false false e = absurd (true≢false e)
 
 -- 6 bytes of AU, at most 64 edges, then EN
 automaton-read : (a : Architecture) (b : List ℕ) (i : ℕ) (u : Automaton) → ProperFront a → readAutomaton a b i ≡ proper u
@@ -260,8 +339,8 @@ automaton-read a b i u g e =
       omega arith,
     )
 
--- ---- a sheet that is read is a proper one, and has at most 5 + 4 * 5 + 6 + 64 * 6 + 2 bytes
-sheet-read : (b : List ℕ) (s : Sheet) → readSheet b ≡ proper s → ProperSheet s × (length b ≤ 417)
+-- ---- a sheet that is read is a proper one, and has at most 5 + 4 * 5 + 3 * 4 + 6 + 64 * 6 + 2 bytes
+sheet-read : (b : List ℕ) (s : Sheet) → readSheet b ≡ proper s → ProperSheet s × (length b ≤ longestSheet)
 unfolding readSheet
 sheet-read b s e =
     let h₁ = goes-on (readFront b) _ e in
@@ -273,5 +352,5 @@ sheet-read b s e =
 pub sheet-proper : (b : List ℕ) (s : Sheet) → readSheet b ≡ proper s → ProperSheet s
 sheet-proper b s e = sheet-read b s e .0
 
-pub sheet-short : (b : List ℕ) (s : Sheet) → readSheet b ≡ proper s → length b ≤ 417
+pub sheet-short : (b : List ℕ) (s : Sheet) → readSheet b ≡ proper s → length b ≤ longestSheet
 sheet-short b s e = sheet-read b s e .1

@@ -9,9 +9,9 @@ use lib.Dec.{eqb}
 use lib.ListN.{length, length-append}
 use lib.Seq.{getD-append-add}
 use borrow.Author.Tests.{lt-ltb, le-ltb}
-use Rattle.model.specs.Sheet.{Process, Edge}
-use Rattle.model.specs.Reading.{byte, short, marked, edgeMarked, ED, EX, processAt, edgeAt}
-use Rattle.model.specs.SheetFile.{processBytes, edgeMark, edgeBytes}
+use Rattle.model.specs.Sheet.{Process, Tie, Architecture, Edge}
+use Rattle.model.specs.Reading.{byte, short, marked, tieMarked, edgeMarked, SY, ED, EX, processAt, tieAt, edgeAt}
+use Rattle.model.specs.SheetFile.{processBytes, tieBytes, edgeMark, edgeBytes}
 
 -- b has x from place i on
 pub record At (b : List ℕ) (i : ℕ) (x : List ℕ) : Type 0 where
@@ -89,6 +89,11 @@ module _ {b : List ℕ} {i : ℕ} where
   pub process-at : (p : Process) (x : List ℕ) → At b i (processBytes p ++ x) → processAt b i ≡ p
   unfolding processBytes
   process-at p x h = λ j. record { inputs = byte-at h 2 j; outputs = byte-at h 3 j; bound = byte-at h 4 j }
+
+  -- the fields of an SY
+  pub tie-at : (t : Tie) (x : List ℕ) → At b i (tieBytes t ++ x) → tieAt b i ≡ t
+  unfolding tieBytes
+  tie-at t x h = λ j. record { left = byte-at h 2 j; right = byte-at h 3 j }
 
   -- the mark of an edge tells its kind
   pub edge-marked-at : (unless : Bool) (x : List ℕ) → At b i (edgeMark unless ++ x) → edgeMarked b i ≡ true

@@ -7,9 +7,9 @@ use Prim.Native.Nat.{ℕ, _+_, _*_, _/_, _%_, _<_}
 use native.Mathlib.Omega.{arith}
 use lib.ListN.{length, length-append}
 use lib.Arith.{digits-div, digits-mod}
-use Rattle.model.specs.Sheet.{Process, Architecture, Edge, Automaton, withProcess, withEdge, ProperEdge, ProperAutomaton}
+use Rattle.model.specs.Sheet.{Process, Tie, Architecture, Edge, Automaton, withProcess, withTie, withEdge, ProperEdge, ProperAutomaton}
 use Rattle.model.specs.Reading.{edFault}
-use Rattle.model.specs.SheetFile.{processBytes, edgeBytes, statesBytes, processesBytes, edgesBytes, frontBytes, automatonBytes, recordsBytes}
+use Rattle.model.specs.SheetFile.{processBytes, tieBytes, edgeBytes, statesBytes, processesBytes, tiesBytes, edgesBytes, frontBytes, automatonBytes, recordsBytes}
 use Rattle.model.proofs.ProperSheet.{edge-proper}
 
 -- ---- the processes
@@ -18,14 +18,24 @@ unfolding processesBytes
 processes-more [] p = append-nil (processBytes p)
 processes-more (q ∷ ps) p = ap (λ (x : List ℕ). processBytes q ++ x) (processes-more ps p) ∙ sym (append-assoc (processBytes q) (processesBytes ps) (processBytes p))
 
-pub front-more : (a : Architecture) (p : Process) → frontBytes (withProcess a p) ≡ frontBytes a ++ processBytes p
-unfolding frontBytes withProcess
-front-more a p = rw processes-more
+pub front-more : (a : Architecture) (p : Process) → a .ties ≡ [] → frontBytes (withProcess a p) ≡ frontBytes a ++ processBytes p
+unfolding frontBytes withProcess tiesBytes
+front-more a p untied = rw (untied, processes-more (a .processes) p, append-nil (processesBytes (a .processes)), append-nil (processesBytes (a .processes) ++ processBytes p))
+
+-- ---- the ties
+ties-more : (ts : List Tie) (t : Tie) → tiesBytes (ts ++ (t ∷ [])) ≡ tiesBytes ts ++ tieBytes t
+unfolding tiesBytes
+ties-more [] t = append-nil (tieBytes t)
+ties-more (u ∷ ts) t = ap (λ (x : List ℕ). tieBytes u ++ x) (ties-more ts t) ∙ sym (append-assoc (tieBytes u) (tiesBytes ts) (tieBytes t))
+
+pub front-tied : (a : Architecture) (t : Tie) → frontBytes (withTie a t) ≡ frontBytes a ++ tieBytes t
+unfolding frontBytes withTie
+front-tied a t = rw (ties-more (a .ties) t, append-assoc (processesBytes (a .processes)) (tiesBytes (a .ties)) (tieBytes t))
 
 -- AR alone
-pub front-alone : (a : Architecture) → a .processes ≡ [] → frontBytes a ≡ 0x41 ∷ 0x52 ∷ a .variables ∷ a .environment ∷ a .root ∷ []
-unfolding frontBytes processesBytes
-front-alone a none = rw none
+pub front-alone : (a : Architecture) → a .processes ≡ [] → a .ties ≡ [] → frontBytes a ≡ 0x41 ∷ 0x52 ∷ a .variables ∷ a .environment ∷ a .root ∷ []
+unfolding frontBytes processesBytes tiesBytes
+front-alone a none untied = rw (none, untied)
 
 -- ---- the edges
 edges-more : (es : List Edge) (e : Edge) → edgesBytes (es ++ (e ∷ [])) ≡ edgesBytes es ++ edgeBytes e

@@ -1,6 +1,6 @@
 -- What reading answers of a row of bytes is what the row is: the writing of a proper sheet, unfinished, or begun with a faulty record.
-use mathlib.Core.Path.{_≡_, refl, ap, _∙_, subst}
-use mathlib.Core.Bool.{true, false, _||_, not}
+use mathlib.Core.Path.{_≡_, refl, sym, ap, _∙_, subst}
+use mathlib.Core.Bool.{Bool, true, false, _||_, _&&_, not, and-true}
 use mathlib.Core.Logic.{⊎-elim}
 use mathlib.Core.List.{List, [], _++_, List·Memᴰ·not-nil}
 use Prim.Native.Nat.{ℕ, _+_, _*_, _≤_, _<_}
@@ -12,7 +12,7 @@ use Rattle.theory.proofs.Bools.{or-is}
 use Rattle.model.specs.declared.Refusal.{Refusal}
 use Rattle.model.specs.declared.Refusal.the-variants.{SheetTooShort, WrongMark, NoOwnerOrTooMany, BadAutomaton}
 use Rattle.model.specs.Sheet.{Architecture, Automaton, Sheet, ProperFront, ProperArchitecture, ProperAutomaton, ProperSheet}
-use Rattle.model.specs.Reading.{Reading, refused, proper, byte, short, marked, AU, PR, allFault, auFault, readEdges, readAutomaton, readFront, readSheet, refuse_when_else_, _then_}
+use Rattle.model.specs.Reading.{Reading, refused, proper, byte, short, marked, tieMarked, AU, PR, SY, allFault, auFault, readEdges, readAutomaton, readFront, readSheet, refuse_when_else_, _then_}
 use Rattle.model.specs.SheetFile.{statesBytes, frontBytes, sheetBytes, Bytes, FollowsFront, Unfinished, BeginsFaulty}
 use Rattle.model.specs.SheetFile.{in-mark-behind-front, in-states, wrong-mark-behind-front, no-owner-or-too-many, bad-automaton}
 use Rattle.model.proofs.ProperSheet.{or-false, no-edge-proper, front-whole}
@@ -45,12 +45,19 @@ module _ (b : List ℕ) (bytes : Bytes b) where
 
   module _ (a : Architecture) (i : ℕ) (g : ProperFront a) (e : b ≡ frontBytes a ++ drop i b) where
     -- a mark that may not stand behind the front
-    not-behind-front : i + 2 ≤ length b → (length (a .processes) < 4 → marked b i PR ≡ false) → (not (marked b i AU) || eqb (length (a .processes)) 0) ≡ true
-        → ¬ FollowsFront a (markAt b i)
-    not-behind-front two ended t h =
-        ⊎-elim (λ p. mark-differs b i 0x50 0x52 two (ended (p .1)) (p .0))
-        (λ q. ⊎-elim (λ m. mark-differs b i 0x41 0x55 two (not-true _ m) (q .0)) (λ z. omega (arith, q .1, eqb-true (length (a .processes)) 0 z)) (or-is (not (marked b i AU)) _ .0 t))
+    not-behind-front : i + 2 ≤ length b → (length (a .processes) < 4 → a .ties ≡ [] → marked b i PR ≡ false) → (length (a .ties) < 3 → tieMarked a b i ≡ false)
+        → (not (marked b i AU) || eqb (length (a .processes)) 0) ≡ true → ¬ FollowsFront a (markAt b i)
+    unfolding tieMarked
+    not-behind-front two ended tied t h =
+        ⊎-elim (λ p. mark-differs b i 0x50 0x52 two (ended (p .1) (p .2)) (p .0))
+        (λ q. ⊎-elim (λ r. mark-differs b i 0x53 0x59 two (no-tie-mark (r .1) (tied (r .2))) (r .0))
+        (λ r. ⊎-elim (λ m. mark-differs b i 0x41 0x55 two (not-true _ m) (r .0)) (λ z. omega (arith, r .1, eqb-true (length (a .processes)) 0 z)) (or-is (not (marked b i AU)) _ .0 t))
+        q)
         h
+      where
+        -- behind a process, the test of an SY is that of its mark
+        no-tie-mark : 1 ≤ length (a .processes) → tieMarked a b i ≡ false → marked b i SY ≡ false
+        no-tie-mark some e = sym (and-true (marked b i SY)) ∙ ap (λ (z : Bool). marked b i SY && not z) (sym (ne-eqb (length (a .processes)) 0 (λ z. omega arith))) ∙ e
 
     -- the fields of AU, 5 before 6, and then the edges
     abbrev behindMark : Reading Automaton
@@ -82,15 +89,15 @@ module _ (b : List ℕ) (bytes : Bytes b) where
         (λ es w. w))))
 
     -- AU, then the edges
-    automaton-answered : (length (a .processes) < 4 → marked b i PR ≡ false) → Answered (Completed b a) b (readAutomaton a b i)
+    automaton-answered : (length (a .processes) < 4 → a .ties ≡ [] → marked b i PR ≡ false) → (length (a .ties) < 3 → tieMarked a b i ≡ false) → Answered (Completed b a) b (readAutomaton a b i)
     unfolding readAutomaton
-    automaton-answered ended =
+    automaton-answered ended tied =
         tested (Completed b a) b SheetTooShort (short b i 2) _
         (λ t. cut b (frontBytes a ++ drop i b) e (in-mark-behind-front a (drop i b) g (left-short b i 2 i 2 t (omega arith) (omega arith))))
         (λ t. let two : i + 2 ≤ length b = is-whole b i 2 t in
         tested (Completed b a) b WrongMark (not (marked b i AU) || eqb (length (a .processes)) 0) behindMark
         (λ w. faulty (drop (i + 2) b) (omega arith) (row-longer (frontBytes a) (markAt b i) (drop i b) (drop (i + 2) b) b e (drop-mark b i two))
-        (wrong-mark-behind-front a (markAt b i) g refl (not-behind-front two ended w)))
+        (wrong-mark-behind-front a (markAt b i) g refl (not-behind-front two ended tied w)))
         (λ w. let h = or-false (not (marked b i AU)) _ w in
         let some : ¬ (length (a .processes) ≡ 0) = eqb-false _ _ (h .1) in
         states-answered (omega arith) (not-false _ (h .0))))
@@ -101,7 +108,7 @@ module _ (b : List ℕ) (bytes : Bytes b) where
   classified =
       followed (FrontRead b) (Written b) b (readFront b) _ (front-answered b)
       (λ f h. followed (Completed b (f .architecture)) (Written b) b (readAutomaton (f .architecture) b (f .end)) _
-      (automaton-answered (f .architecture) (f .end) (h .good) (h .so-far) (h .ended))
+      (automaton-answered (f .architecture) (f .end) (h .good) (h .so-far) (h .ended) (h .tied))
       (λ u w. w))
 
 -- ---- what the row is, by the answer

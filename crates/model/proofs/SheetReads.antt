@@ -9,14 +9,14 @@ use lib.ListN.{length, length-append}
 use borrow.Author.Tests.{le-ltb}
 use Rattle.model.specs.declared.Refusal.{Refusal}
 use Rattle.model.specs.declared.Refusal.the-variants.{SheetTooShort, WrongMark, NoOwnerOrTooMany, BadAutomaton}
-use Rattle.model.specs.Sheet.{Architecture, Edge, Automaton, Sheet, ProperFront, ProperArchitecture, ProperAutomaton, ProperSheet}
-use Rattle.model.specs.Reading.{Reading, refused, proper, marked, edgeMarked, PR, ED, EX, EN}
-use Rattle.model.specs.Reading.{readEnd, readEdges, readAutomaton, readProcesses, readFront, readSheet, _then_}
+use Rattle.model.specs.Sheet.{Architecture, Edge, Automaton, Sheet, ProperArchitecture, ProperAutomaton, ProperSheet}
+use Rattle.model.specs.Reading.{Reading, refused, proper, marked, tieMarked, edgeMarked, PR, SY, ED, EX, EN}
+use Rattle.model.specs.Reading.{readEnd, readEdges, readAutomaton, readFront, readSheet, _then_}
 use Rattle.model.specs.SheetFile.{statesBytes, edgesBytes, frontBytes, automatonBytes, recordsBytes, sheetBytes}
 use Rattle.model.proofs.Refusing.{go}
 use Rattle.model.proofs.FaultsExact.{front-faultless, states-faultless}
 use Rattle.model.proofs.RecordAt.{At, behind, next, length-at, long-enough, marked-at}
-use Rattle.model.proofs.FrontReads.{no-process, front-through}
+use Rattle.model.proofs.FrontReads.{front-done}
 use Rattle.model.proofs.AutomatonReads.{havingEdges, states-next, no-edge, edges-through}
 
 -- ---- the front and what is behind it
@@ -35,15 +35,6 @@ module _ (b : List ℕ) (a : Architecture) (i : ℕ) (front : readFront b ≡ pr
   pub automaton-refused : (r : Refusal) → readAutomaton a b i ≡ refused r → readSheet b ≡ refused r
   unfolding _then_
   automaton-refused r e = behind-front ∙ rw e
-
--- a proper front, with no room or no mark for another PR
-pub front-done : (a : Architecture) (x b : List ℕ) → b ≡ frontBytes a ++ x → ProperFront a → (length (a .processes) ≡ 4) ⊎ (marked b (length (frontBytes a)) PR ≡ false)
-    → readFront b ≡ proper record { architecture = a; end = length (frontBytes a) }
-unfolding readProcesses
-front-done a x b e g (inl full) = front-through a x b 0 e g (omega arith)
-front-done a x b e g (inr mark) =
-    let few : length (a .processes) ≤ 4 = g .few-processes in
-    front-through a x b (4 - length (a .processes)) e g (omega arith) ∙ no-process b (length (frontBytes a)) a (4 - length (a .processes)) mark
 
 -- ---- AU and its edges, with room for k more
 -- the edges read and those behind them
@@ -86,14 +77,14 @@ gathered s (proper es) = refl
 -- AR to the last edge
 records-through : (s : Sheet) (x b : List ℕ) (k : ℕ) → b ≡ recordsBytes s ++ x → ProperSheet s → length (s .automaton .edges) + k ≡ 64
     → readSheet b ≡ (readEdges (s .architecture .variables) (s .automaton .states) k b (length (recordsBytes s)) then λ es. proper (moreEdges s es))
-unfolding recordsBytes automatonBytes statesBytes
+unfolding recordsBytes automatonBytes statesBytes tieMarked
 records-through s x b k e g room =
     let a : Architecture = s .architecture in
     let u : Automaton = s .automaton in
     let i : ℕ = length (frontBytes a) in
     let whole : b ≡ frontBytes a ++ (automatonBytes u ++ x) = e ∙ append-assoc (frontBytes a) (automatonBytes u) x in
     let states : At b i (automatonBytes u ++ x) = behind (frontBytes a) _ whole in
-    let front : readFront b ≡ proper record { architecture = a; end = i } = front-done a _ b whole (g .architecture .front) (inr (marked-at states PR)) in
+    let front : readFront b ≡ proper record { architecture = a; end = i } = front-done a _ b whole (g .architecture .front) (inr (inr (marked-at states PR))) (inr (rw (marked-at states SY))) in
     behind-front b a i front
     ∙ ap (λ (m : Reading Automaton). m then λ w. proper record { architecture = a; automaton = w }) (automaton-through b i k a u x states (g .architecture) (g .automaton) room)
     ∙ gathered s (readEdges (a .variables) (u .states) k b (i + length (automatonBytes u)))

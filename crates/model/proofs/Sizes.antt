@@ -1,4 +1,4 @@
--- The sizes that 01 prints: a sheet has at most 417 bytes, a book at most 338, a choice at most 272 entries.
+-- The sizes that 01 prints: a sheet has at most 429 bytes, a book at most 338, a choice at most 272 entries.
 use mathlib.Core.Path.{_≡_, refl}
 use mathlib.Core.List.{List, [], _∷_, List·Memᴰ·head, List·Memᴰ·tail}
 use Prim.Native.Nat.{ℕ, suc, _+_, _*_, _≤_}
@@ -37,4 +37,4 @@ book-short a good =
 pub all-sizes : (sheet : List ℕ) (s : Sheet) (is-proper : readSheet sheet ≡ proper s) → sizes sheet s is-proper
 all-sizes sheet s is-proper =
     let good : ProperArchitecture (s .architecture) = sheet-proper sheet s is-proper .architecture in
-    record { sheet-short = sheet-short sheet s is-proper; book-short = book-short (s .architecture) good; choice-short = λ c. choice-short (s .architecture) c good }
+    record { sheet-short = sheet-short sheet s is-proper; book-short = book-short (s .architecture) good; choice-short = λ c choice. choice-short (s .architecture) c good (choice .tables) }

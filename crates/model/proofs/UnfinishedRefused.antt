@@ -1,20 +1,22 @@
 -- A row that ends within a mark, or within the record of a mark that may stand there, is refused by 1: what stands before is read through.
 use mathlib.Core.Path.{_≡_, refl, ap, _∙_}
-use mathlib.Core.Bool.{Bool, true, not}
+use mathlib.Core.Bool.{Bool, true, false, not}
 use mathlib.Core.Logic.{inr}
 use mathlib.Core.List.{List, [], _++_, append-assoc}
 use Prim.Native.Nat.{ℕ, suc, _+_, _-_, _≤_, _<_}
 use native.Mathlib.Omega.{arith}
+use lib.Dec.{eqb}
 use lib.ListN.{length, length-append}
+use borrow.Author.Tests.{ne-eqb}
 use Rattle.model.specs.declared.Refusal.the-variants.{SheetTooShort, WrongMark}
 use Rattle.model.specs.Sheet.{Architecture, Sheet, ProperFront, ProperSheet}
-use Rattle.model.specs.Reading.{refused, marked, AR, PR, AU, readEnd, readAutomaton, readFront, readSheet}
-use Rattle.model.specs.SheetFile.{edgeMark, frontBytes, recordsBytes, Unfinished, in-first-mark, in-architecture, in-mark-behind-front, in-process, in-states, in-mark-behind-edges, in-edge}
-use Rattle.model.proofs.Refusing.{stop, go}
+use Rattle.model.specs.Reading.{refused, marked, tieMarked, AR, PR, SY, AU, readEnd, readAutomaton, readFront, readSheet}
+use Rattle.model.specs.SheetFile.{edgeMark, frontBytes, recordsBytes, Unfinished, in-first-mark, in-architecture, in-mark-behind-front, in-process, in-tie, in-states, in-mark-behind-edges, in-edge}
+use Rattle.model.proofs.Refusing.{stop, go, then-refused}
 use Rattle.model.proofs.RecordAt.{At, behind, too-short, long-enough, no-mark, no-edge-mark, marked-at, mark-long, edge-marked-at}
-use Rattle.model.proofs.FrontReads.{process-short, front-through}
+use Rattle.model.proofs.FrontReads.{process-short, thenTies, front-through, tie-short, ties-front, front-done}
 use Rattle.model.proofs.AutomatonReads.{states-mark, edge-short}
-use Rattle.model.proofs.SheetReads.{front-refused, automaton-refused, front-done, edges-refused, end-refused}
+use Rattle.model.proofs.SheetReads.{front-refused, automaton-refused, edges-refused, end-refused}
 
 -- ---- in the front
 first-mark-short : (x : List ℕ) → length x < 2 → readFront x ≡ refused SheetTooShort
@@ -28,25 +30,38 @@ architecture-short x l =
     let mark : marked (AR ++ x) 0 AR ≡ true = marked-at start AR in
     go SheetTooShort _ (long-enough start 2 (omega arith)) ∙ go WrongMark _ (ap not mark) ∙ stop SheetTooShort _ (too-short start 5 (omega arith))
 
-process-unfinished : (a : Architecture) (x b : List ℕ) → b ≡ frontBytes a ++ (PR ++ x) → ProperFront a → length (a .processes) < 4 → length x < 3 → readFront b ≡ refused SheetTooShort
-process-unfinished a x b e g few l =
+process-unfinished : (a : Architecture) (x b : List ℕ) → b ≡ frontBytes a ++ (PR ++ x) → ProperFront a → length (a .processes) < 4 → a .ties ≡ [] → length x < 3
+    → readFront b ≡ refused SheetTooShort
+unfolding thenTies
+process-unfinished a x b e g few untied l =
     let here : At b (length (frontBytes a)) (PR ++ x) = behind (frontBytes a) (PR ++ x) e in
-    front-through a (PR ++ x) b (suc (3 - length (a .processes))) e g (omega arith)
-    ∙ process-short b (length (frontBytes a)) a (3 - length (a .processes)) (marked-at here PR) (too-short here 5 (omega arith))
+    front-through a (PR ++ x) b (suc (3 - length (a .processes))) e g untied (omega arith)
+    ∙ then-refused _ (process-short b (length (frontBytes a)) a (3 - length (a .processes)) (marked-at here PR) (too-short here 5 (omega arith)))
+
+tie-unfinished : (a : Architecture) (x b : List ℕ) → b ≡ frontBytes a ++ (SY ++ x) → ProperFront a → 1 ≤ length (a .processes) → length (a .ties) < 3 → length x < 2
+    → readFront b ≡ refused SheetTooShort
+unfolding tieMarked
+tie-unfinished a x b e g some few l =
+    let i : ℕ = length (frontBytes a) in
+    let here : At b i (SY ++ x) = behind (frontBytes a) (SY ++ x) e in
+    let several : eqb (length (a .processes)) 0 ≡ false = ne-eqb (length (a .processes)) 0 (λ z. omega arith) in
+    ties-front a (SY ++ x) b e g (inr (inr (marked-at here PR))) (suc (2 - length (a .ties))) (omega arith)
+    ∙ tie-short b i a (2 - length (a .ties)) (rw (marked-at here SY, several)) (too-short here 4 (omega arith))
 
 -- ---- behind it
 mark-short : (a : Architecture) (x b : List ℕ) → b ≡ frontBytes a ++ x → ProperFront a → length x < 2 → readSheet b ≡ refused SheetTooShort
-unfolding readAutomaton
+unfolding readAutomaton tieMarked
 mark-short a x b e g l =
     let here : At b (length (frontBytes a)) x = behind (frontBytes a) x e in
-    automaton-refused b a (length (frontBytes a)) (front-done a x b e g (inr (no-mark here l PR))) SheetTooShort (stop SheetTooShort _ (too-short here 2 l))
+    automaton-refused b a (length (frontBytes a)) (front-done a x b e g (inr (inr (no-mark here l PR))) (inr (rw (no-mark here l SY)))) SheetTooShort
+    (stop SheetTooShort _ (too-short here 2 l))
 
 states-short : (a : Architecture) (x b : List ℕ) → b ≡ frontBytes a ++ (AU ++ x) → ProperFront a → 1 ≤ length (a .processes) → length x < 4 → readSheet b ≡ refused SheetTooShort
-unfolding readAutomaton
+unfolding readAutomaton tieMarked
 states-short a x b e g some l =
     let i : ℕ = length (frontBytes a) in
     let here : At b i (AU ++ x) = behind (frontBytes a) (AU ++ x) e in
-    automaton-refused b a i (front-done a (AU ++ x) b e g (inr (marked-at here PR))) SheetTooShort
+    automaton-refused b a i (front-done a (AU ++ x) b e g (inr (inr (marked-at here PR))) (inr (rw (marked-at here SY)))) SheetTooShort
     (go SheetTooShort _ (long-enough here 2 (omega arith)) ∙ go WrongMark _ (states-mark b i a (marked-at here AU) some) ∙ stop SheetTooShort _ (too-short here 6 (omega arith)))
 
 -- ---- behind AU
@@ -69,8 +84,10 @@ pub unfinished-refused : (b : List ℕ) → Unfinished b → readSheet b ≡ ref
 unfinished-refused b (in-first-mark x l) = front-refused x SheetTooShort (first-mark-short x l)
 unfinished-refused b (in-architecture x l) = front-refused (AR ++ x) SheetTooShort (architecture-short x l)
 unfinished-refused b (in-mark-behind-front a x g l) = mark-short a x (frontBytes a ++ x) refl g l
-unfinished-refused b (in-process a x g few l) =
-    front-refused (frontBytes a ++ PR ++ x) SheetTooShort (process-unfinished a x (frontBytes a ++ PR ++ x) (append-assoc (frontBytes a) PR x) g few l)
+unfinished-refused b (in-process a x g few untied l) =
+    front-refused (frontBytes a ++ PR ++ x) SheetTooShort (process-unfinished a x (frontBytes a ++ PR ++ x) (append-assoc (frontBytes a) PR x) g few untied l)
+unfinished-refused b (in-tie a x g some few l) =
+    front-refused (frontBytes a ++ SY ++ x) SheetTooShort (tie-unfinished a x (frontBytes a ++ SY ++ x) (append-assoc (frontBytes a) SY x) g some few l)
 unfinished-refused b (in-states a x g some l) = states-short a x (frontBytes a ++ AU ++ x) (append-assoc (frontBytes a) AU x) g some l
 unfinished-refused b (in-mark-behind-edges s x g l) = end-short s x (recordsBytes s ++ x) refl g l
 unfinished-refused b (in-edge s unless x g few l) = edge-unfinished s unless x (recordsBytes s ++ edgeMark unless ++ x) (append-assoc (recordsBytes s) (edgeMark unless) x) g few l

@@ -1,10 +1,10 @@
--- 01, "Bench cases": their sheets, and the books, annotations and text that are named there; and a sheet of the greatest size.
+-- 01, "Bench cases": their sheets, and the books, annotations and text that are named there; case S of tied processes; and a sheet of the greatest size.
 use mathlib.Core.Bool.{Bool, true, false}
 use mathlib.Core.List.{List, [], _∷_, _++_}
 use Prim.Native.Nat.{ℕ}
 use lib.ListN.{replicate}
 use Rattle.model.specs.Ascii.{ascii}
-use Rattle.model.specs.Sheet.{Process, Edge, Sheet}
+use Rattle.model.specs.Sheet.{Process, Tie, Edge, Sheet}
 use Rattle.model.specs.SheetFile.{sheetBytes}
 use Rattle.model.specs.RunGraph.{blank}
 
@@ -33,6 +33,22 @@ sheetE bound states rejecting edges =
 abbrev pub edge : ℕ → ℕ → List ℕ
 edge q r = 0x45 ∷ 0x44 ∷ q ∷ r ∷ 0 ∷ 0 ∷ []
 
+-- S with these ties, and these edges before the last: each step needs variable 0 of process 0 and variable 3 of process 1
+abbrev pub sheetS : List ℕ → List ℕ → List ℕ
+sheetS ties edges =
+    0x41 ∷ 0x52 ∷ 0x04 ∷ 0x00 ∷ 0x00 ∷ 0x50 ∷ 0x52 ∷ 0x00 ∷ 0x05 ∷ 0x01 ∷ 0x50 ∷ 0x52 ∷ 0x00 ∷ 0x0A ∷ 0x01
+    ∷ ties
+    ++ (0x41 ∷ 0x55 ∷ 0x02 ∷ 0x00 ∷ 0x02 ∷ 0x00 ∷ 0x45 ∷ 0x44 ∷ 0x00 ∷ 0x00 ∷ 0x00 ∷ 0x00 ∷ 0x45 ∷ 0x44 ∷ 0x00 ∷ 0x01 ∷ 0x00 ∷ 0x01 ∷ 0x45 ∷ 0x44 ∷ 0x00 ∷ 0x01 ∷ 0x00 ∷ 0x08 ∷ edges)
+    ++ (0x45 ∷ 0x44 ∷ 0x01 ∷ 0x01 ∷ 0x00 ∷ 0x00 ∷ 0x45 ∷ 0x4E ∷ [])
+
+-- its tie
+abbrev pub tieS : List ℕ
+tieS = 0x53 ∷ 0x59 ∷ 0x01 ∷ 0x00 ∷ []
+
+-- the edge with which no tied tables work: variable 2 must not be set
+abbrev pub edgeS : List ℕ
+edgeS = 0x45 ∷ 0x44 ∷ 0x00 ∷ 0x01 ∷ 0x04 ∷ 0x00 ∷ []
+
 -- ---- books and annotations
 -- the entries of A's book: g1 in state 0, g2 in state 1, and each leads to the other
 abbrev pub choiceA : List ℕ
@@ -60,6 +76,10 @@ bookD =
 abbrev pub bookE : List ℕ
 bookE = 0x54 ∷ 0x42 ∷ 0 ∷ 0 ∷ 0 ∷ 0 ∷ 0x45 ∷ 0x4E ∷ []
 
+-- a book for S, with these output masks
+abbrev pub bookS : ℕ → ℕ → List ℕ
+bookS m₀ m₁ = 0x54 ∷ 0x42 ∷ 0 ∷ 0 ∷ m₀ ∷ 0 ∷ 0x54 ∷ 0x42 ∷ 1 ∷ 0 ∷ m₁ ∷ 0 ∷ 0x45 ∷ 0x4E ∷ []
+
 -- ---- the greatest sizes
 -- four inputs, two outputs and four states
 abbrev full : ℕ → ℕ → Process
@@ -69,10 +89,14 @@ full inputs outputs = record { inputs = inputs; outputs = outputs; bound = 4 }
 abbrev wide : Bool → Edge
 wide unless = record { from = 15; to = 0; on = 0x0F; off = 0xF0; unless = unless }
 
--- 8 variables, none of the environment; four processes that own two each and read four of the others; 16 automaton states, 64 edges of both kinds
+-- a tie of these two
+abbrev pub both : ℕ → ℕ → Tie
+both left right = record { left = left; right = right }
+
+-- 8 variables, none of the environment; four processes that own two each and read four of the others, tied all; 16 automaton states, 64 edges of both kinds
 unfoldable pub largest : Sheet
 largest = record {
-  architecture = record { variables = 8; environment = 0; root = 0; processes = full 0x3C 0x03 ∷ full 0xF0 0x0C ∷ full 0xC3 0x30 ∷ full 0x0F 0xC0 ∷ [] };
+  architecture = record { variables = 8; environment = 0; root = 0; processes = full 0x3C 0x03 ∷ full 0xF0 0x0C ∷ full 0xC3 0x30 ∷ full 0x0F 0xC0 ∷ []; ties = both 0 1 ∷ both 3 1 ∷ both 2 3 ∷ [] };
   automaton = record { states = 16; initial = 15; rejecting = 0xFFFF; edges = replicate 32 (wide false) ++ replicate 32 (wide true) };
 }
 

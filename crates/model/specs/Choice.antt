@@ -1,13 +1,13 @@
--- 01, "The order of choices": a choice is one row of entries, and the first entry that differs decides.
+-- 01, "The order of choices": a choice is one row of entries that keeps the ties, and the first entry that differs decides.
 use mathlib.Core.Path.{_≡_}
 use mathlib.Core.Bool.{Bool, true, false, _&&_}
-use mathlib.Core.List.{List, [], _∷_, _++_, map}
-use Prim.Native.Nat.{ℕ, zero, suc, _-_, _*_, _^_, _<_, min}
+use mathlib.Core.List.{List, [], _∷_, _++_, map, List·Memᴰ}
+use Prim.Native.Nat.{ℕ, zero, suc, _+_, _-_, _*_, _^_, _<_, min}
 use lib.Dec.{ltb}
-use lib.ListN.{length, replicate, take, drop}
-use Rattle.theory.specs.Lists.{filter, Pairwise, from}
-use Rattle.model.specs.Mask.{within, count}
-use Rattle.model.specs.Sheet.{Process, Architecture}
+use lib.ListN.{length, getD, replicate, take, drop}
+use Rattle.theory.specs.Lists.{filter, Pairwise, from, tab, all, same}
+use Rattle.model.specs.Mask.{within, count, pack}
+use Rattle.model.specs.Sheet.{Process, Tie, Architecture}
 use Rattle.model.specs.Compose.{rowLength, processLength}
 
 -- what an entry is: a mask within these outputs, or a next state below this bound
@@ -52,9 +52,9 @@ pub data Fits : List Entry → List ℕ → Type 0 where
   done : Fits [] []
   also : {e : Entry} {es : List Entry} {v : ℕ} {c : List ℕ} → may e v ≡ true → Fits es c → Fits (e ∷ es) (v ∷ c)
 
--- a choice fixes every row of every process
-abbrev pub IsChoice : Architecture → List ℕ → Type 0
-IsChoice a c = Fits (entries a) c
+-- tables fix every row of every process
+abbrev pub IsTables : Architecture → List ℕ → Type 0
+IsTables a c = Fits (entries a) c
 
 -- the same as a test; what follows the entries is ignored
 unfoldable pub fits : List Entry → List ℕ → Bool
@@ -63,7 +63,61 @@ fits [] c = true
 fits (e ∷ es) [] = false
 fits (e ∷ es) (v ∷ c) = may e v && fits es c
 
--- the choice at the front of the tables
+-- ---- ties: two tied processes have one table
+-- where the entries of process i begin
+unfoldable pub begins : List Process → ℕ → ℕ
+unfolding processLength
+begins [] i = 0
+begins (p ∷ ps) zero = 0
+begins (p ∷ ps) (suc i) = processLength p + begins ps i
+
+-- how many it has: none, where there is no such process
+unfoldable pub lengthOf : List Process → ℕ → ℕ
+unfolding processLength
+lengthOf [] i = 0
+lengthOf (p ∷ ps) zero = processLength p
+lengthOf (p ∷ ps) (suc i) = lengthOf ps i
+
+-- a mask packed to the outputs that it is within; a next state as it is
+unfoldable pub packedValue : Entry → ℕ → ℕ
+unfolding pack
+packedValue (output m) v = pack m v
+packedValue (next b) v = v
+
+-- what entry k is
+abbrev pub entryAt : Architecture → ℕ → Entry
+entryAt a k = getD (entries a) k (next 0)
+
+-- the packed value of entry k
+unfoldable pub packedAt : Architecture → List ℕ → ℕ → ℕ
+unfolding packedValue entries
+packedAt a c k = packedValue (entryAt a k) (getD c k 0)
+
+-- the table of process i: its entries, packed, states rising
+unfoldable pub tableOf : Architecture → List ℕ → ℕ → List ℕ
+unfolding tab packedAt lengthOf begins
+tableOf a c i = tab (packedAt a c) (lengthOf (a .processes) i) (begins (a .processes) i)
+
+-- each two tied processes have one table
+abbrev pub KeepsTies : Architecture → List ℕ → Type 0
+KeepsTies a c = (t : Tie) → List·Memᴰ t (a .ties) → tableOf a c (t .left) ≡ tableOf a c (t .right)
+
+-- one tie is kept
+unfoldable pub kept : Architecture → List ℕ → Tie → Bool
+unfolding same tableOf
+kept a c t = same (tableOf a c (t .left)) (tableOf a c (t .right))
+
+-- all ties are kept, as a test; what follows the entries is ignored
+unfoldable pub keepsTies : Architecture → List ℕ → Bool
+unfolding all kept
+keepsTies a c = all (kept a c) (a .ties)
+
+-- a choice: tables that keep the ties
+pub record IsChoice (a : Architecture) (c : List ℕ) : Type 0 where
+  pub tables : IsTables a c
+  pub ties : KeepsTies a c
+
+-- the entries at the front of the tables
 abbrev pub chosen : Architecture → List ℕ → List ℕ
 chosen a tables = take (length (entries a)) tables
 
@@ -83,7 +137,7 @@ padRows (p ∷ ps) (b ∷ bs) c =
     let n = min b (p .bound) * rowLength p in
     take n c ++ replicate (processLength p - n) 0 ++ padRows ps bs (drop n c)
 
--- the choice that these tables stand for
+-- the tables at the bounds that these stand for
 unfoldable pub padded : Architecture → List ℕ → List ℕ → List ℕ
 unfolding padRows
 padded a bs c = padRows (a .processes) bs c
@@ -106,8 +160,13 @@ unfoldable pub each : List ℕ → List (List ℕ) → List (List ℕ)
 each [] cs = []
 each (v ∷ vs) cs = map (λ c. v ∷ c) cs ++ each vs cs
 
--- all choices, in order
-unfoldable pub choices : List Entry → List (List ℕ)
+-- all ways to fill these entries, in order
+unfoldable pub fillings : List Entry → List (List ℕ)
 unfolding each values
-choices [] = [] ∷ []
-choices (e ∷ es) = each (values e) (choices es)
+fillings [] = [] ∷ []
+fillings (e ∷ es) = each (values e) (fillings es)
+
+-- all choices, in order: the fillings that keep the ties
+unfoldable pub choices : Architecture → List (List ℕ)
+unfolding filter keepsTies fillings entries
+choices a = filter (keepsTies a) (fillings (entries a))

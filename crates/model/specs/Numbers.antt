@@ -1,8 +1,9 @@
 -- 01, "Who causes which refusal": the number of each refusal, and what each answer says in the words of 01.
+use mathlib.Core.List.{List, [], _∷_}
 use Prim.Native.Nat.{ℕ}
 use Rattle.model.specs.declared.Refusal.{Refusal}
 use Rattle.model.specs.declared.Refusal.the-variants.{SheetTooShort, WrongMark, BadArchitecture, BadProcess, NoOwnerOrTooMany, BadAutomaton}
-use Rattle.model.specs.declared.Refusal.the-variants.{BadEdge, BookBufferTooShort, AnnotationBufferTooShort, BadBook, BadEntry, NoSuchProcess}
+use Rattle.model.specs.declared.Refusal.the-variants.{BadEdge, BookBufferTooShort, AnnotationBufferTooShort, BadBook, BadEntry, NoSuchProcess, BadTie}
 use Rattle.model.specs.declared.Finding.{Finding}
 use Rattle.model.specs.declared.Finding.the-variants.{Yes, No}
 use Rattle.model.specs.declared.Verdict.{Verdict}
@@ -23,6 +24,11 @@ number AnnotationBufferTooShort = 9
 number BadBook = 10
 number BadEntry = 11
 number NoSuchProcess = 12
+number BadTie = 15
+
+-- the numbers of a sheet's own faults
+abbrev pub sheetNumbers : List ℕ
+sheetNumbers = 1 ∷ 2 ∷ 3 ∷ 4 ∷ 5 ∷ 6 ∷ 7 ∷ 15 ∷ []
 
 -- ---- what a C caller gets: 0 for the good answer, 256 for the other finding, otherwise the refusal's number
 -- proper, written, read

@@ -1,14 +1,14 @@
--- 01, "The sheet file" and "Who causes which refusal", 1 to 7: how a sheet is read, to the first fault in file order.
+-- 01, "The sheet file" and "Who causes which refusal", 1 to 7 and 15: how a sheet is read, to the first fault in file order.
 use mathlib.Core.Bool.{Bool, true, false, _&&_, _||_, not}
 use mathlib.Core.List.{List, [], _∷_}
 use Prim.Native.Nat.{ℕ, zero, suc, _+_, _-_, _*_, _^_}
 use lib.Dec.{eqb, ltb, leb}
 use lib.ListN.{getD, length}
 use Rattle.model.specs.declared.Refusal.{Refusal}
-use Rattle.model.specs.declared.Refusal.the-variants.{SheetTooShort, WrongMark, BadArchitecture, BadProcess, NoOwnerOrTooMany, BadAutomaton, BadEdge}
+use Rattle.model.specs.declared.Refusal.the-variants.{SheetTooShort, WrongMark, BadArchitecture, BadProcess, NoOwnerOrTooMany, BadAutomaton, BadEdge, BadTie}
 use Rattle.theory.specs.Lists.{all, from}
 use Rattle.model.specs.Mask.{if, share, beyond, count}
-use Rattle.model.specs.Sheet.{Process, Architecture, Edge, Automaton, Sheet, withProcess, owned, composedStates}
+use Rattle.model.specs.Sheet.{Process, Tie, Architecture, Edge, Automaton, Sheet, withProcess, withTie, processNo, owned, composedStates}
 
 -- what is read, or the refusal of the first fault
 pub data Reading (A : Type 0) : Type 0 where
@@ -44,6 +44,10 @@ AR = 0x41 ∷ 0x52 ∷ []
 abbrev pub PR : List ℕ
 PR = 0x50 ∷ 0x52 ∷ []
 
+-- a tie
+abbrev pub SY : List ℕ
+SY = 0x53 ∷ 0x59 ∷ []
+
 -- the automaton
 abbrev pub AU : List ℕ
 AU = 0x41 ∷ 0x55 ∷ []
@@ -64,6 +68,11 @@ EN = 0x45 ∷ 0x4E ∷ []
 unfoldable pub marked : List ℕ → ℕ → List ℕ → Bool
 unfolding short
 marked b i m = not (short b i 2) && eqb (byte b i) (byte m 0) && eqb (byte b (i + 1)) (byte m 1)
+
+-- the mark of a tie stands at i, where one may: behind one PR or more
+unfoldable pub tieMarked : Architecture → List ℕ → ℕ → Bool
+unfolding marked
+tieMarked a b i = marked b i SY && not (eqb (length (a .processes)) 0)
 
 -- the mark of an edge of either kind stands at i
 unfoldable pub edgeMarked : List ℕ → ℕ → Bool
@@ -94,6 +103,16 @@ unfoldable pub prFault : Architecture → Process → Bool
 unfolding fieldFault taken
 prFault a p = fieldFault (a .variables) (a .environment) p || taken (a .processes) p
 
+-- two processes that cannot share a table: unequal bounds, counts of inputs or counts of outputs
+unfoldable pub unlike : Process → Process → Bool
+unfolding count
+unlike p q = not (eqb (p .bound) (q .bound)) || not (eqb (count (p .inputs)) (count (q .inputs))) || not (eqb (count (p .outputs)) (count (q .outputs)))
+
+-- 15: a process that there is not, one and the same process, or two that cannot share a table
+unfoldable pub tieFault : List Process → Tie → Bool
+unfolding unlike
+tieFault ps t = leb (length ps) (t .left) || leb (length ps) (t .right) || eqb (t .left) (t .right) || unlike (processNo ps (t .left)) (processNo ps (t .right))
+
 -- 5: a variable without an owner, or T above 256
 unfoldable pub allFault : Architecture → Bool
 unfolding all owned from composedStates
@@ -109,14 +128,18 @@ unfoldable pub edFault : ℕ → ℕ → Edge → Bool
 unfolding beyond share
 edFault variables states e = leb states (e .from) || leb states (e .to) || beyond (e .on) variables || beyond (e .off) variables || share (e .on) (e .off)
 
--- ---- the front: AR and the PR records
--- the fields of the AR at the start, with no process yet
+-- ---- the front: AR, the PR records and the SY records
+-- the fields of the AR at the start, with no process and no tie yet
 abbrev pub architectureAt : List ℕ → Architecture
-architectureAt b = record { variables = byte b 2; environment = byte b 3; root = byte b 4; processes = [] }
+architectureAt b = record { variables = byte b 2; environment = byte b 3; root = byte b 4; processes = []; ties = [] }
 
 -- the fields of the PR at i
 abbrev pub processAt : List ℕ → ℕ → Process
 processAt b i = record { inputs = byte b (i + 2); outputs = byte b (i + 3); bound = byte b (i + 4) }
+
+-- the fields of the SY at i
+abbrev pub tieAt : List ℕ → ℕ → Tie
+tieAt b i = record { left = byte b (i + 2); right = byte b (i + 3) }
 
 -- an architecture, and where the record behind it begins
 pub record Front : Type 0 where
@@ -139,15 +162,32 @@ readProcesses (suc k) a b i =
     let rest = readProcesses k (withProcess a (processAt b i)) b (i + 5) in
     if (marked b i PR) (readProcess a b i rest) (proper record { architecture = a; end = i })
 
--- AR, then the processes
+-- one SY behind those of a, and then the rest
+unfoldable pub readTie : Architecture → List ℕ → ℕ → Reading Front → Reading Front
+unfolding refuse_when_else_ short tieFault
+readTie a b i rest =
+    refuse SheetTooShort when short b i 4 else
+    refuse BadTie when tieFault (a .processes) (tieAt b i) else
+    rest
+
+-- at most k more SY behind those of a
+unfoldable pub readTies : ℕ → Architecture → List ℕ → ℕ → Reading Front
+unfolding if tieMarked withTie readTie
+readTies zero a b i = proper record { architecture = a; end = i }
+readTies (suc k) a b i =
+    let rest = readTies k (withTie a (tieAt b i)) b (i + 4) in
+    if (tieMarked a b i) (readTie a b i rest) (proper record { architecture = a; end = i })
+
+-- AR, then the processes, then the ties
 unfoldable pub readFront : List ℕ → Reading Front
-unfolding refuse_when_else_ short marked arFault readProcesses
+unfolding refuse_when_else_ _then_ short marked arFault readProcesses readTies
 readFront b =
     refuse SheetTooShort when short b 0 2 else
     refuse WrongMark when not (marked b 0 AR) else
     refuse SheetTooShort when short b 0 5 else
     refuse BadArchitecture when arFault (architectureAt b) else
-    readProcesses 4 (architectureAt b) b 5
+    readProcesses 4 (architectureAt b) b 5 then λ f.
+    readTies 3 (f .architecture) b (f .end)
 
 -- ---- behind the front: AU, the ED and EX records and EN
 -- the fields of the ED or EX at i, and its kind

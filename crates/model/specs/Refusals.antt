@@ -6,7 +6,7 @@ use Prim.Native.Nat.{ℕ, _≤_, _<_}
 use lib.ListN.{length}
 use Rattle.model.specs.declared.Refusal.{Refusal}
 use Rattle.model.specs.declared.Refusal.the-variants.{BookBufferTooShort, AnnotationBufferTooShort, BadBook, BadEntry, NoSuchProcess}
-use Rattle.model.specs.Numbers.{number}
+use Rattle.model.specs.Numbers.{number, sheetNumbers}
 use Rattle.model.specs.Sheet.{Architecture, Sheet}
 use Rattle.model.specs.Reading.{refused, proper, readSheet}
 use Rattle.model.specs.Choice.{entries, IsChoice, chosen}
@@ -23,38 +23,38 @@ pub data BookRefused (a : Architecture) (book : List ℕ) : Refusal → Type 0 w
   not-formed : ((c : List ℕ) → ¬ Formed a book c) → BookRefused a book BadBook
   no-choice : (c : List ℕ) → Formed a book c → ¬ IsChoice a c → BookRefused a book BadEntry
 
--- find: 1 to 7, then 8, then 9
+-- find: the sheet's faults, then 8, then 9
 pub data FindRefused (sheet book ann : List ℕ) : Refusal → Type 0 where
   by-sheet : (r : Refusal) → readSheet sheet ≡ refused r → FindRefused sheet book ann r
   short-book : (s : Sheet) → readSheet sheet ≡ proper s → length book < bookLength (s .architecture) → FindRefused sheet book ann BookBufferTooShort
   short-annotation : (s : Sheet) → readSheet sheet ≡ proper s → bookLength (s .architecture) ≤ length book → length ann < vertices s
       → FindRefused sheet book ann AnnotationBufferTooShort
 
--- judge and annotate: 1 to 7, then 10, 11, then 9
+-- judge and annotate: the sheet's faults, then 10, 11, then 9
 pub data JudgeRefused (sheet book ann : List ℕ) : Refusal → Type 0 where
   by-sheet : (r : Refusal) → readSheet sheet ≡ refused r → JudgeRefused sheet book ann r
   by-book : (s : Sheet) (r : Refusal) → readSheet sheet ≡ proper s → BookRefused (s .architecture) book r → JudgeRefused sheet book ann r
   short-annotation : (s : Sheet) (c : List ℕ) → readSheet sheet ≡ proper s → Formed (s .architecture) book c → IsChoice (s .architecture) c → length ann < vertices s
       → JudgeRefused sheet book ann AnnotationBufferTooShort
 
--- write: 1 to 7, then 11, then 8
+-- write: the sheet's faults, then 11, then 8
 pub data WriteRefused (sheet tables book : List ℕ) : Refusal → Type 0 where
   by-sheet : (r : Refusal) → readSheet sheet ≡ refused r → WriteRefused sheet tables book r
   no-choice : (s : Sheet) → readSheet sheet ≡ proper s → ¬ IsChoice (s .architecture) (chosen (s .architecture) tables) → WriteRefused sheet tables book BadEntry
   short-book : (s : Sheet) → readSheet sheet ≡ proper s → IsChoice (s .architecture) (chosen (s .architecture) tables) → length book < bookLength (s .architecture)
       → WriteRefused sheet tables book BookBufferTooShort
 
--- read: 1 to 7, then 10, 11
+-- read: the sheet's faults, then 10, 11
 pub data ReadRefused (sheet book : List ℕ) : Refusal → Type 0 where
   by-sheet : (r : Refusal) → readSheet sheet ≡ refused r → ReadRefused sheet book r
   by-book : (s : Sheet) (r : Refusal) → readSheet sheet ≡ proper s → BookRefused (s .architecture) book r → ReadRefused sheet book r
 
--- part: 1 to 7, then 12, then 10, 11
+-- part: the sheet's faults, then 12, then 10, 11
 pub data PartRefused (sheet book : List ℕ) (i : ℕ) : Refusal → Type 0 where
   by-sheet : (r : Refusal) → readSheet sheet ≡ refused r → PartRefused sheet book i r
   no-process : (s : Sheet) → readSheet sheet ≡ proper s → length (s .architecture .processes) ≤ i → PartRefused sheet book i NoSuchProcess
   by-book : (s : Sheet) (r : Refusal) → readSheet sheet ≡ proper s → i < length (s .architecture .processes) → BookRefused (s .architecture) book r → PartRefused sheet book i r
 
--- the number is one of 1 to 7, or one of these
+-- the number is that of a fault of the sheet, or one of these
 abbrev pub Among : List ℕ → Refusal → Type 0
-Among ns r = ((1 ≤ number r) × (number r ≤ 7)) ⊎ List·Memᴰ (number r) ns
+Among ns r = List·Memᴰ (number r) sheetNumbers ⊎ List·Memᴰ (number r) ns

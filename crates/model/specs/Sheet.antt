@@ -3,7 +3,7 @@ use mathlib.Core.Path.{_≡_}
 use mathlib.Core.Bool.{Bool, true, false, _||_}
 use mathlib.Core.List.{List, [], _∷_, _++_, List·Memᴰ}
 use Prim.Native.Nat.{ℕ, _-_, _*_, _^_, _≤_, _<_}
-use lib.ListN.{length}
+use lib.ListN.{length, getD}
 use Rattle.theory.specs.Lists.{Pairwise}
 use Rattle.model.specs.Mask.{bit, share, count}
 
@@ -13,12 +13,18 @@ pub record Process : Type 0 where
   pub outputs : ℕ
   pub bound : ℕ
 
--- AR and every PR: the environment variables are the lowest numbered, and `root` are their values at the start
+-- SY: two processes that share one table
+pub record Tie : Type 0 where
+  pub left : ℕ
+  pub right : ℕ
+
+-- AR, every PR and every SY, in file order: the environment variables are the lowest numbered, and `root` are their values at the start
 pub record Architecture : Type 0 where
   pub variables : ℕ
   pub environment : ℕ
   pub root : ℕ
   pub processes : List Process
+  pub ties : List Tie
 
 -- ED and EX: an edge between automaton states. An ED is met by a label with all of `on` and none of `off`, an EX by any other: it says unless
 pub record Edge : Type 0 where
@@ -42,11 +48,23 @@ pub record Sheet : Type 0 where
 
 -- one process more
 unfoldable pub withProcess : Architecture → Process → Architecture
-withProcess a p = record { variables = a .variables; environment = a .environment; root = a .root; processes = a .processes ++ (p ∷ []) }
+withProcess a p = record { variables = a .variables; environment = a .environment; root = a .root; processes = a .processes ++ (p ∷ []); ties = a .ties }
+
+-- one tie more
+unfoldable pub withTie : Architecture → Tie → Architecture
+withTie a t = record { variables = a .variables; environment = a .environment; root = a .root; processes = a .processes; ties = a .ties ++ (t ∷ []) }
 
 -- one edge more
 unfoldable pub withEdge : Automaton → Edge → Automaton
 withEdge u e = record { states = u .states; initial = u .initial; rejecting = u .rejecting; edges = u .edges ++ (e ∷ []) }
+
+-- no process
+abbrev pub nobody : Process
+nobody = record { inputs = 0; outputs = 0; bound = 0 }
+
+-- process i of these
+abbrev pub processNo : List Process → ℕ → Process
+processNo ps i = getD ps i nobody
 
 -- an output of one of these processes
 unfoldable pub owned : List Process → ℕ → Bool
@@ -82,7 +100,24 @@ ProperProcesses variables environment ps = (p : Process) → List·Memᴰ p ps �
 abbrev pub OutputsApart : List Process → Type 0
 OutputsApart ps = Pairwise (λ p q. Apart (p .outputs) (q .outputs)) ps
 
--- AR and every PR, each by itself and beside those before it
+-- p and q can share a table: equal bounds, equally many inputs and equally many outputs
+pub record SameShape (p q : Process) : Type 0 where
+  pub bounds : p .bound ≡ q .bound
+  pub inputs : count (p .inputs) ≡ count (q .inputs)
+  pub outputs : count (p .outputs) ≡ count (q .outputs)
+
+-- a tie: two of these processes, different ones, that can share a table
+pub record ProperTie (ps : List Process) (t : Tie) : Type 0 where
+  pub left-known : t .left < length ps
+  pub right-known : t .right < length ps
+  pub two : ¬ (t .left ≡ t .right)
+  pub shape : SameShape (processNo ps (t .left)) (processNo ps (t .right))
+
+-- every tie is proper
+abbrev pub ProperTies : List Process → List Tie → Type 0
+ProperTies ps ts = (t : Tie) → List·Memᴰ t ts → ProperTie ps t
+
+-- AR, every PR and every SY, each by itself and beside those before it
 pub record ProperFront (a : Architecture) : Type 0 where
   pub few-variables : a .variables ≤ 8
   pub few-environment : a .environment ≤ 4
@@ -91,6 +126,8 @@ pub record ProperFront (a : Architecture) : Type 0 where
   pub few-processes : length (a .processes) ≤ 4
   pub processes-proper : ProperProcesses (a .variables) (a .environment) (a .processes)
   pub outputs-apart : OutputsApart (a .processes)
+  pub few-ties : length (a .ties) ≤ 3
+  pub ties-proper : ProperTies (a .processes) (a .ties)
 
 -- all of them together: at least one process, each variable with an owner, and T at most 256
 pub record ProperArchitecture (a : Architecture) : Type 0 where

@@ -1,4 +1,4 @@
--- 01, "The sheet file" and refusals 1 to 7 a second time, without a reader: how a sheet is written, and which rows of bytes are none.
+-- 01, "The sheet file" and refusals 1 to 7 and 15 a second time, without a reader: how a sheet is written, and which rows of bytes are none.
 use mathlib.Core.Path.{_≡_}
 use mathlib.Core.Bool.{Bool}
 use mathlib.Core.Logic.{_⊎_}
@@ -6,15 +6,19 @@ use mathlib.Core.List.{List, [], _∷_, _++_}
 use Prim.Native.Nat.{ℕ, _/_, _%_, _≤_, _<_}
 use lib.ListN.{length}
 use Rattle.model.specs.declared.Refusal.{Refusal}
-use Rattle.model.specs.declared.Refusal.the-variants.{WrongMark, BadArchitecture, BadProcess, NoOwnerOrTooMany, BadAutomaton, BadEdge}
-use Rattle.model.specs.Sheet.{Process, Architecture, Edge, Automaton, Sheet, withProcess, withEdge, ProperFront, ProperArchitecture, ProperAutomaton, ProperSheet}
+use Rattle.model.specs.declared.Refusal.the-variants.{WrongMark, BadArchitecture, BadProcess, NoOwnerOrTooMany, BadAutomaton, BadEdge, BadTie}
+use Rattle.model.specs.Sheet.{Process, Tie, Architecture, Edge, Automaton, Sheet, withProcess, withTie, withEdge, ProperFront, ProperArchitecture, ProperAutomaton, ProperSheet}
 use Rattle.model.specs.Mask.{if}
-use Rattle.model.specs.Reading.{AR, PR, AU, ED, EX, EN, byte}
+use Rattle.model.specs.Reading.{AR, PR, SY, AU, ED, EX, EN, byte}
 
 -- ---- the records, each its mark and its fields
 -- PR
 unfoldable pub processBytes : Process → List ℕ
 processBytes p = PR ++ (p .inputs ∷ p .outputs ∷ p .bound ∷ [])
+
+-- SY
+unfoldable pub tieBytes : Tie → List ℕ
+tieBytes t = SY ++ (t .left ∷ t .right ∷ [])
 
 -- the mark of an edge: EX where it says unless, and otherwise ED
 unfoldable pub edgeMark : Bool → List ℕ
@@ -36,16 +40,22 @@ unfolding processBytes
 processesBytes [] = []
 processesBytes (p ∷ ps) = processBytes p ++ processesBytes ps
 
+-- ties in file order
+unfoldable pub tiesBytes : List Tie → List ℕ
+unfolding tieBytes
+tiesBytes [] = []
+tiesBytes (t ∷ ts) = tieBytes t ++ tiesBytes ts
+
 -- edges in file order
 unfoldable pub edgesBytes : List Edge → List ℕ
 unfolding edgeBytes
 edgesBytes [] = []
 edgesBytes (e ∷ es) = edgeBytes e ++ edgesBytes es
 
--- AR and every PR
+-- AR, every PR and every SY
 unfoldable pub frontBytes : Architecture → List ℕ
-unfolding processesBytes
-frontBytes a = AR ++ (a .variables ∷ a .environment ∷ a .root ∷ []) ++ processesBytes (a .processes)
+unfolding processesBytes tiesBytes
+frontBytes a = AR ++ (a .variables ∷ a .environment ∷ a .root ∷ []) ++ processesBytes (a .processes) ++ tiesBytes (a .ties)
 
 -- AU and every ED and EX
 unfoldable pub automatonBytes : Automaton → List ℕ
@@ -62,14 +72,21 @@ unfoldable pub sheetBytes : Sheet → List ℕ
 unfolding recordsBytes
 sheetBytes s = recordsBytes s ++ EN
 
+-- the length of the longest sheet: AR, four PR, three SY, AU, 64 ED or EX, and EN
+abbrev pub longestSheet : ℕ
+longestSheet = 429
+
 -- what a file holds
 abbrev pub Bytes : List ℕ → Type 0
 Bytes b = (i : ℕ) → byte b i < 256
 
 -- ---- the marks that may stand behind proper records
--- behind AR and the PR: a PR up to the fourth, AU behind one or more
+-- behind AR, the PR and the SY: a PR up to the fourth, behind no SY; behind one PR or more an SY up to the third, and AU
 abbrev pub FollowsFront : Architecture → List ℕ → Type 0
-FollowsFront a m = ((m ≡ PR) × (length (a .processes) < 4)) ⊎ ((m ≡ AU) × (1 ≤ length (a .processes)))
+FollowsFront a m =
+    ((m ≡ PR) × (length (a .processes) < 4) × (a .ties ≡ []))
+    ⊎ ((m ≡ SY) × (1 ≤ length (a .processes)) × (length (a .ties) < 3))
+    ⊎ ((m ≡ AU) × (1 ≤ length (a .processes)))
 
 -- behind AU and the edges: an ED or an EX up to the 64th of both together, EN
 abbrev pub FollowsEdges : Automaton → List ℕ → Type 0
@@ -80,17 +97,20 @@ pub data Unfinished : List ℕ → Type 0 where
   in-first-mark : (x : List ℕ) → length x < 2 → Unfinished x
   in-architecture : (x : List ℕ) → length x < 3 → Unfinished (AR ++ x)
   in-mark-behind-front : (a : Architecture) (x : List ℕ) → ProperFront a → length x < 2 → Unfinished (frontBytes a ++ x)
-  in-process : (a : Architecture) (x : List ℕ) → ProperFront a → length (a .processes) < 4 → length x < 3 → Unfinished (frontBytes a ++ PR ++ x)
+  in-process : (a : Architecture) (x : List ℕ) → ProperFront a → length (a .processes) < 4 → a .ties ≡ [] → length x < 3 → Unfinished (frontBytes a ++ PR ++ x)
+  in-tie : (a : Architecture) (x : List ℕ) → ProperFront a → 1 ≤ length (a .processes) → length (a .ties) < 3 → length x < 2 → Unfinished (frontBytes a ++ SY ++ x)
   in-states : (a : Architecture) (x : List ℕ) → ProperFront a → 1 ≤ length (a .processes) → length x < 4 → Unfinished (frontBytes a ++ AU ++ x)
   in-mark-behind-edges : (s : Sheet) (x : List ℕ) → ProperSheet s → length x < 2 → Unfinished (recordsBytes s ++ x)
   in-edge : (s : Sheet) (unless : Bool) (x : List ℕ) → ProperSheet s → length (s .automaton .edges) < 64 → length x < 4 → Unfinished (recordsBytes s ++ edgeMark unless ++ x)
 
--- ---- 2 to 7: the row ends with its first faulty record, which makes the proper ones before it improper
+-- ---- 2 to 7 and 15: the row ends with its first faulty record, which makes the proper ones before it improper
 pub data Faulty : List ℕ → Refusal → Type 0 where
   wrong-first-mark : (m : List ℕ) → length m ≡ 2 → ¬ (m ≡ AR) → Faulty m WrongMark
-  bad-architecture : (a : Architecture) → a .processes ≡ [] → ¬ ProperFront a → Faulty (frontBytes a) BadArchitecture
+  bad-architecture : (a : Architecture) → a .processes ≡ [] → a .ties ≡ [] → ¬ ProperFront a → Faulty (frontBytes a) BadArchitecture
   wrong-mark-behind-front : (a : Architecture) (m : List ℕ) → ProperFront a → length m ≡ 2 → ¬ FollowsFront a m → Faulty (frontBytes a ++ m) WrongMark
-  bad-process : (a : Architecture) (p : Process) → ProperFront a → length (a .processes) < 4 → ¬ ProperFront (withProcess a p) → Faulty (frontBytes a ++ processBytes p) BadProcess
+  bad-process : (a : Architecture) (p : Process) → ProperFront a → length (a .processes) < 4 → a .ties ≡ [] → ¬ ProperFront (withProcess a p)
+      → Faulty (frontBytes a ++ processBytes p) BadProcess
+  bad-tie : (a : Architecture) (t : Tie) → ProperFront a → 1 ≤ length (a .processes) → length (a .ties) < 3 → ¬ ProperFront (withTie a t) → Faulty (frontBytes a ++ tieBytes t) BadTie
   no-owner-or-too-many : (a : Architecture) (u : Automaton) → ProperFront a → 1 ≤ length (a .processes) → ¬ ProperArchitecture a → Faulty (frontBytes a ++ statesBytes u) NoOwnerOrTooMany
   bad-automaton : (a : Architecture) (u : Automaton) → ProperArchitecture a → u .edges ≡ [] → ¬ ProperAutomaton (a .variables) u → Faulty (frontBytes a ++ statesBytes u) BadAutomaton
   wrong-mark-behind-edges : (s : Sheet) (m : List ℕ) → ProperSheet s → length m ≡ 2 → ¬ FollowsEdges (s .automaton) m → Faulty (recordsBytes s ++ m) WrongMark

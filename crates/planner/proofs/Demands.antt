@@ -8,10 +8,11 @@ use Rattle.model.specs.Sheet.{Sheet}
 use Rattle.model.specs.Reading.{proper, readSheet}
 use Rattle.model.specs.BenchCases.{sheetE, edge, bookE}
 use Rattle.model.specs.Calls.{findSheet, judgeOf}
-use Rattle.model.specs.Demands.{demand-1, demand-2, demand-3, unless-edges, sizes}
+use Rattle.model.specs.Demands.{demand-1, demand-2, demand-3, tied-tables, unless-edges, sizes}
 use Rattle.model.proofs.DemandOne.{first-demand}
 use Rattle.model.proofs.DemandTwo.{second-demand}
 use Rattle.model.proofs.DemandThree.{third-demand}
+use Rattle.model.proofs.TiedTables.{all-tied}
 use Rattle.model.proofs.UnlessEdges.{all-unless}
 use Rattle.model.proofs.Sizes.{all-sizes}
 
@@ -26,6 +27,10 @@ exact-verdicts = second-demand
 -- 3: `none` exactly when every choice has a reachable rejecting loop; otherwise the first choice without one, with the exact annotation
 pub exact-search : (sheet book ann : List ℕ) (s : Sheet) (not-refused : findSheet sheet book ann ≡ proper s) → demand-3 sheet book ann s not-refused
 exact-search = third-demand
+
+-- ties: each book that is read has one table for tied processes, and what breaks a tie gets 11
+pub exact-ties : (sheet : List ℕ) (s : Sheet) (is-proper : readSheet sheet ≡ proper s) → tied-tables sheet s is-proper
+exact-ties = all-tied
 
 -- edges that say unless: EX turns the test of the masks round, and nothing else
 pub exact-unless : unless-edges

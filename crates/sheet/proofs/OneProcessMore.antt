@@ -1,4 +1,4 @@
--- What is known of a front: with no process yet, and with one process more.
+-- What is known of a front: with no process yet, with one process more, and with one tie more.
 use mathlib.Core.Path.{_≡_, sym, ap, ap₂, subst, _∙_}
 use mathlib.Core.Bool.{false}
 use mathlib.Core.List.{List, [], _∷_, _++_}
@@ -6,13 +6,13 @@ use Prim.Native.Nat.{ℕ, _+_, _*_, _^_, _<_, _≤_}
 use native.Mathlib.Omega.{arith}
 use lib.Bits.{bitOr}
 use lib.ListN.{length, length-append}
-use Rattle.model.specs.Sheet.{Process, withProcess, composedStates, ProperFront}
+use Rattle.model.specs.Sheet.{Process, Tie, withProcess, withTie, composedStates, ProperFront}
 use Rattle.model.specs.Sheet as model
-use Rattle.model.specs.Reading.{arFault, prFault}
-use Rattle.model.proofs.ProperSheet.{opening-proper, process-more}
+use Rattle.model.specs.Reading.{arFault, prFault, tieFault}
+use Rattle.model.proofs.ProperSheet.{opening-proper, process-more, tie-more}
 use Rattle.architecture.specs.declared.Architecture.{Architecture}
 use Rattle.architecture.specs.Struct.{architectureOf, processesIn, Arrays}
-use Rattle.architecture.proofs.ProcessesOfArrays.{count-is}
+use Rattle.architecture.proofs.ProcessesOfArrays.{count-is, ties-count}
 use Rattle.sheet.specs.declared.FrontRead.{FrontRead}
 use Rattle.sheet.specs.Struct.{outputsOf, FrontKnown}
 use Rattle.sheet.proofs.OwnedOutputs.{outputs-more}
@@ -23,16 +23,20 @@ unfolding withProcess
 count-more x y p e =
     omega (arith, count-is x, count-is y, ap (λ (a : model.Architecture). length (a .processes)) e, length-append (architectureOf x .processes) (p ∷ []))
 
+pub ties-more : (x y : Architecture) (t : Tie) → architectureOf y ≡ withTie (architectureOf x) t → y .ties ≡ x .ties + 1
+unfolding withTie
+ties-more x y t e = omega (arith, ties-count x, ties-count y, ap (λ (a : model.Architecture). length (a .ties)) e, length-append (architectureOf x .ties) (t ∷ []))
+
 -- ---- no process yet
-pub known-opened : (b : List ℕ) (f : FrontRead) (a : model.Architecture) → a .processes ≡ [] → arFault a ≡ false → architectureOf (f .architecture) ≡ a → Arrays (f .architecture)
+pub known-opened : (b : List ℕ) (f : FrontRead) (a : model.Architecture) → a .processes ≡ [] → a .ties ≡ [] → arFault a ≡ false → architectureOf (f .architecture) ≡ a → Arrays (f .architecture)
     → f .end ≤ length b → f .owned ≡ 0 → f .total ≡ 2 ^ a .environment → FrontKnown b f
 unfolding architectureOf outputsOf composedStates
-known-opened b f a none sound is arrays inside owned total =
+known-opened b f a none untied sound is arrays inside owned total =
     let no-process : processesIn (f .architecture) ≡ [] = ap (λ (x : model.Architecture). x .processes) is ∙ none in
     let environment : f .architecture .environment ≡ a .environment = ap (λ (x : model.Architecture). x .environment) is in
     record {
       arrays = arrays;
-      proper = subst ProperFront (sym is) (opening-proper a none sound);
+      proper = subst ProperFront (sym is) (opening-proper a none untied sound);
       inside = inside;
       owned-is = owned ∙ sym (ap outputsOf no-process);
       total-is = total ∙ sym (ap₂ composedStates environment no-process);
@@ -63,3 +67,18 @@ module _ {b : List ℕ} {f : FrontRead} (z : FrontKnown b f) (few : f .architect
         owned-is = owned ∙ ap (λ (m : ℕ). bitOr m (p .outputs)) (z .owned-is) ∙ sym (outputs-more (processesIn (f .architecture)) p) ∙ sym (ap outputsOf processes);
         total-is = total ∙ composed-next ∙ sym (ap₂ composedStates environment processes);
       }
+
+-- ---- one tie more, without fault: processes, outputs and composed states are as they were
+pub known-tied : {b : List ℕ} {f : FrontRead} (g : FrontRead) (t : Tie) → FrontKnown b f → f .architecture .ties < 3 → tieFault (processesIn (f .architecture)) t ≡ false
+    → architectureOf (g .architecture) ≡ withTie (architectureOf (f .architecture)) t → Arrays (g .architecture) → g .end ≤ length b → g .owned ≡ f .owned → g .total ≡ f .total → FrontKnown b g
+unfolding withTie architectureOf
+known-tied {f = f} g t z few sound is arrays inside owned total =
+    let processes : processesIn (g .architecture) ≡ processesIn (f .architecture) = ap (λ (x : model.Architecture). x .processes) is in
+    let environment : g .architecture .environment ≡ f .architecture .environment = ap (λ (x : model.Architecture). x .environment) is in
+    record {
+      arrays = arrays;
+      proper = subst ProperFront (sym is) (tie-more (architectureOf (f .architecture)) t (z .proper) (omega (arith, ties-count (f .architecture))) sound);
+      inside = inside;
+      owned-is = owned ∙ z .owned-is ∙ sym (ap outputsOf processes);
+      total-is = total ∙ z .total-is ∙ sym (ap₂ composedStates environment processes);
+    }

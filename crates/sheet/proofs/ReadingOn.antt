@@ -5,18 +5,18 @@ use mathlib.Core.List.{List}
 use Prim.Native.Nat.{ℕ, zero, suc, _+_, _-_, _<_}
 use native.Mathlib.Omega.{arith}
 use Rattle.model.specs.declared.Refusal.{Refusal}
-use Rattle.model.specs.declared.Refusal.the-variants.{SheetTooShort, WrongMark, BadArchitecture, BadProcess}
+use Rattle.model.specs.declared.Refusal.the-variants.{SheetTooShort, WrongMark, BadArchitecture, BadProcess, BadTie}
 use Rattle.model.specs.declared.Reply.{Reply}
 use Rattle.model.specs.Mask.{if, share}
-use Rattle.model.specs.Sheet.{Process, Architecture, withProcess}
-use Rattle.model.specs.Reading.{Reading, refused, proper, refuse_when_else_, _then_, short, marked, AR, PR, architectureAt, processAt, arFault, taken, fieldFault, prFault}
-use Rattle.model.specs.Reading.{Front, readProcess, readProcesses, readFront, readAutomaton, readSheet}
-use Rattle.model.proofs.ProperSheet.{passes}
+use Rattle.model.specs.Sheet.{Process, Architecture, withProcess, withTie}
+use Rattle.model.specs.Reading.{Reading, refused, proper, refuse_when_else_, _then_, short, marked, tieMarked, AR, PR, architectureAt, processAt, tieAt, arFault, taken, fieldFault, prFault, tieFault}
+use Rattle.model.specs.Reading.{Front, readProcess, readProcesses, readTie, readTies, readFront, readAutomaton, readSheet}
+use Rattle.model.proofs.ProperSheet.{passes, same-proper}
 use Rattle.architecture.specs.Struct.{architectureOf}
 use Rattle.sheet.specs.declared.FrontRead.{FrontRead}
 use Rattle.sheet.specs.declared.Sheet.{Sheet}
-use Rattle.sheet.specs.Struct.{sheetOf, readingAs, outputsOf, FrontKnown, automatonAs}
-use Rattle.sheet.specs.Steps.{processFrom}
+use Rattle.sheet.specs.Struct.{sheetOf, readingAs, outputsOf, frontOf, frontAs, FrontKnown, automatonAs}
+use Rattle.sheet.specs.Steps.{processFrom, tieFrom}
 use Rattle.sheet.proofs.OwnedOutputs.{taken-is}
 
 -- a refusal stays, whatever follows
@@ -35,41 +35,73 @@ module _ {A B : Type 0} {m : Reading A} (f : A → Reading B) where
   unfolding _then_
   then-proper e = ap (λ (x : Reading A). x then f) e
 
--- ---- processes
-module _ (a : Architecture) (b : List ℕ) (i : ℕ) where
-  -- one PR, and then what follows it
-  process-then : (f : Front → Reading Front) → (processFrom a b i then f) ≡ readProcess a b i (f record { architecture = withProcess a (processAt b i); end = i + 5 })
-  unfolding processFrom readProcess _then_
-  process-then f =
-      refuse-then SheetTooShort (short b i 5) _ f ∙ ap (refuse_when_else_ SheetTooShort (short b i 5)) (refuse-then BadProcess (prFault a (processAt b i)) _ f)
+-- ---- records of one kind
+-- a step at each mark, at most k of them
+pub record Repeats (marks : Architecture → ℕ → Bool) (step : Architecture → ℕ → Reading Front) (many : ℕ → Architecture → ℕ → Reading Front) : Type 0 where
+  pub last : (a : Architecture) (i : ℕ) → many 0 a i ≡ proper record { architecture = a; end = i }
+  pub more : (k : ℕ) (a : Architecture) (i : ℕ)
+      → many (suc k) a i ≡ if (marks a i) (step a i then λ f. many k (f .architecture) (f .end)) (proper record { architecture = a; end = i })
 
-  pub processes-none : (k : ℕ) → marked b i PR ≡ false → readProcesses k a b i ≡ proper record { architecture = a; end = i }
-  unfolding readProcesses if
-  processes-none zero h = refl
-  processes-none (suc k) h = rw h
+module _ {marks : Architecture → ℕ → Bool} {step : Architecture → ℕ → Reading Front} {many : ℕ → Architecture → ℕ → Reading Front} (R : Repeats marks step many) where
+  pub repeats-none : (a : Architecture) (i k : ℕ) → marks a i ≡ false → many k a i ≡ proper record { architecture = a; end = i }
+  unfolding if
+  repeats-none a i zero h = R .last a i
+  repeats-none a i (suc k) h = R .more k a i ∙ rw h
 
-  pub processes-last : readProcesses 0 a b i ≡ proper record { architecture = a; end = i }
-  unfolding readProcesses
-  processes-last = refl
+  pub repeats-turn : (a : Architecture) (i m n : ℕ) → n < m → marks a i ≡ true → many (m - n) a i ≡ (step a i then λ f. many (m - (n + 1)) (f .architecture) (f .end))
+  unfolding if
+  repeats-turn a i m n l h = let e : m - n ≡ suc (m - (n + 1)) = omega arith in rw e (R .more (m - (n + 1)) a i ∙ rw h)
 
-  pub processes-turn : (m n : ℕ) → n < m → marked b i PR ≡ true
-      → readProcesses (m - n) a b i ≡ (processFrom a b i then λ f. readProcesses (m - (n + 1)) (f .architecture) b (f .end))
-  unfolding readProcesses if
-  processes-turn m n l h = let e : m - n ≡ suc (m - (n + 1)) = omega arith in rw (e, h) (sym (process-then (λ f. readProcesses (m - (n + 1)) (f .architecture) b (f .end))))
-
-  -- where no fault was found
-  pub process-read : (f : Front) → processFrom a b i ≡ proper f → record { architecture = withProcess a (processAt b i); end = i + 5 } ≡ f
-  unfolding processFrom readProcess
-  process-read f e =
-      let whole = passes SheetTooShort (short b i 5) _ e in
-      let sound = passes BadProcess (prFault a (processAt b i)) _ (whole .1) in
-      cc (sound .1)
-
--- what the loop over the processes keeps: reading on behind f is reading from the first on
-pub record ProcessesRead (b : List ℕ) (first f : FrontRead) : Type 0 where
+-- what the loop over them keeps: reading on behind f is reading from the first on
+pub record RecordsRead (b : List ℕ) (many : ℕ → Architecture → ℕ → Reading Front) (most count : ℕ) (first f : FrontRead) : Type 0 where
   pub known : FrontKnown b f
   pub done : f .answer ≡ Reply.Done
-  pub rest : readProcesses (4 - f .architecture .processes) (architectureOf (f .architecture)) b (f .end) ≡ readProcesses 4 (architectureOf (first .architecture)) b (first .end)
+  pub rest : many (most - count) (architectureOf (f .architecture)) (f .end) ≡ many most (architectureOf (first .architecture)) (first .end)
+
+-- the struct itself is what was read, where nothing follows
+pub read-ends : {b : List ℕ} {many : ℕ → Architecture → ℕ → Reading Front} {most count : ℕ} {first f : FrontRead} → RecordsRead b many most count first f
+    → proper record { architecture = architectureOf (f .architecture); end = f .end } ≡ frontOf f
+unfolding frontAs
+read-ends {f = f} i = sym (ap (λ (x : Reply). frontAs x (f .architecture) (f .end)) (i .done))
+
+-- one record of two tests, and then what follows it
+tested-then : (r q : Refusal) (t u : Bool) (x : Front) (f : Front → Reading Front)
+    → (refuse_when_else_ r t (refuse_when_else_ q u (proper x)) then f) ≡ refuse_when_else_ r t (refuse_when_else_ q u (f x))
+unfolding _then_
+tested-then r q t u x f = refuse-then r t _ f ∙ ap (refuse_when_else_ r t) (refuse-then q u (proper x) f)
+
+module _ (b : List ℕ) where
+  -- processes
+  pub processes-repeat : Repeats (λ a i. marked b i PR) (λ a i. processFrom a b i) (λ k a i. readProcesses k a b i)
+  unfolding readProcesses readProcess processFrom
+  processes-repeat = record {
+    last = λ a i. refl;
+    more = λ k a i.
+        ap (λ (x : Reading Front). if (marked b i PR) x (proper record { architecture = a; end = i }))
+        (sym (tested-then SheetTooShort BadProcess (short b i 5) (prFault a (processAt b i)) _ (λ f. readProcesses k (f .architecture) b (f .end))));
+  }
+
+  -- ties
+  pub ties-repeat : Repeats (λ a i. tieMarked a b i) (λ a i. tieFrom a b i) (λ k a i. readTies k a b i)
+  unfolding readTies readTie tieFrom
+  ties-repeat = record {
+    last = λ a i. refl;
+    more = λ k a i.
+        ap (λ (x : Reading Front). if (tieMarked a b i) x (proper record { architecture = a; end = i }))
+        (sym (tested-then SheetTooShort BadTie (short b i 4) (tieFault (a .processes) (tieAt b i)) _ (λ f. readTies k (f .architecture) b (f .end))));
+  }
+
+-- what was read, where no fault was found
+read-both : (r q : Refusal) (t u : Bool) {x f : Front} → refuse_when_else_ r t (refuse_when_else_ q u (proper x)) ≡ proper f → x ≡ f
+read-both r q t u {x} e = let whole = passes r t (refuse_when_else_ q u (proper x)) e in same-proper _ _ (passes q u (proper x) (whole .1) .1)
+
+pub process-read : (a : Architecture) (b : List ℕ) (i : ℕ) (f : Front) → processFrom a b i ≡ proper f → record { architecture = withProcess a (processAt b i); end = i + 5 } ≡ f
+unfolding processFrom readProcess
+process-read a b i f e = read-both SheetTooShort BadProcess (short b i 5) (prFault a (processAt b i)) e
+
+pub tie-read : (a : Architecture) (b : List ℕ) (i : ℕ) (f : Front) → tieFrom a b i ≡ proper f → record { architecture = withTie a (tieAt b i); end = i + 4 } ≡ f
+unfolding tieFrom readTie
+tie-read a b i f e = read-both SheetTooShort BadTie (short b i 4) (tieFault (a .processes) (tieAt b i)) e
 
 -- what is wrong with a PR: a field, or else an output that the mask of all outputs has
 module _ (a : Architecture) (p : Process) where
@@ -82,12 +114,13 @@ module _ (a : Architecture) (p : Process) where
   mask-decides h = ap (λ (t : Bool). t || taken (a .processes) p) h ∙ sym (taken-is (a .processes) p)
 
 -- ---- the front, and the sheet
--- after the mark: the length of AR, its fields, and the processes
+-- after the mark: the length of AR, its fields, the processes and the ties
 abbrev pub opening : List ℕ → Reading Front
 opening b =
     refuse SheetTooShort when short b 0 5 else
     refuse BadArchitecture when arFault (architectureAt b) else
-    readProcesses 4 (architectureAt b) b 5
+    readProcesses 4 (architectureAt b) b 5 then λ f.
+    readTies 3 (f .architecture) b (f .end)
 
 pub front-is : (b : List ℕ) → readFront b ≡ (refuse SheetTooShort when short b 0 2 else refuse WrongMark when not (marked b 0 AR) else opening b)
 unfolding readFront

@@ -1,12 +1,12 @@
-// What is wrong with the fields of a record: the conditions of the refusals 3 to 7.
+// What is wrong with the fields of a record: the conditions of the refusals 3 to 7 and 15.
 ghost use mathlib.Core.Path.{_≡_};
 ghost use mathlib.Core.List.{[]};
-ghost use Prim.Native.Nat.{_-_, _^_, _≤_};
+ghost use Prim.Native.Nat.{_-_, _^_, _<_, _≤_};
 ghost use Rattle.theory.specs.Lists.{all, from};
 ghost use Rattle.model.specs.Mask.{bit, beyond};
 ghost use Rattle.model.specs.Sheet.{composedStates};
-ghost use Rattle.model.specs.Reading.{arFault, fieldFault, allFault, auFault, edFault};
-ghost use Rattle.architecture.specs.Struct.{architectureOf, processesIn};
+ghost use Rattle.model.specs.Reading.{arFault, fieldFault, unlike, tieFault, allFault, auFault, edFault};
+ghost use Rattle.architecture.specs.Struct.{Arrays, architectureOf, processIn, processesIn};
 ghost use Rattle.automaton.specs.Struct.{edgeOf};
 ghost use Rattle.sheet.specs.Struct.{outputsOf};
 use architecture::Architecture;
@@ -45,7 +45,7 @@ fn all_set(mask: u8, first: u8, end: u8) -> bool
 }
 
 pub fn ar_fault(variables: u8, environment: u8, root: u8) -> bool
-    ensures { λ r. ⌜ r ≡ arFault (record { variables = variables; environment = environment; root = root; processes = [] }) ⌝ }
+    ensures { λ r. ⌜ r ≡ arFault (record { variables = variables; environment = environment; root = root; processes = []; ties = [] }) ⌝ }
 {
     if 8 < variables {
         return true;
@@ -83,6 +83,43 @@ pub fn field_fault(variables: u8, environment: u8, inputs: u8, outputs: u8, boun
         return true;
     }
     4 < bound
+}
+
+// Processes i and j cannot share a table.
+fn is_unlike(architecture: Architecture, i: usize, j: usize) -> bool
+    requires { ⌜ Arrays architecture ⌝ }
+    requires { ⌜ (i < 4) × (j < 4) ⌝ }
+    ensures { λ r. ⌜ r ≡ unlike (processIn architecture i) (processIn architecture j) ⌝ }
+{
+    let bounds = architecture.bounds;
+    let inputs = architecture.inputs;
+    let outputs = architecture.outputs;
+    if bounds[i] != bounds[j] {
+        return true;
+    }
+    if u8::count_ones(inputs[i]) != u8::count_ones(inputs[j]) {
+        return true;
+    }
+    u8::count_ones(outputs[i]) != u8::count_ones(outputs[j])
+}
+
+pub fn sy_fault(architecture: Architecture, left: u8, right: u8) -> bool
+    requires { ⌜ Arrays architecture ⌝ }
+    ensures { λ r. ⌜ r ≡ tieFault (processesIn architecture) (record { left = left; right = right }) ⌝ }
+{
+    let n = architecture.processes;
+    let i = left as usize;
+    let j = right as usize;
+    if n <= i {
+        return true;
+    }
+    if n <= j {
+        return true;
+    }
+    if i == j {
+        return true;
+    }
+    is_unlike(architecture, i, j)
 }
 
 // Of an architecture with the mask of all outputs and the count of composed states.

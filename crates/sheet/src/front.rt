@@ -1,4 +1,4 @@
-// The front of a sheet: AR and the PR records.
+// The front of a sheet: AR and the PR records. The SY records behind them are read by `tied`.
 ghost use mathlib.Core.Path.{_≡_};
 ghost use mathlib.Core.Bool.{false};
 ghost use mathlib.Core.List.{List, []};
@@ -30,10 +30,10 @@ fn wide(x: u8) -> u16
     x as u16
 }
 
-// AR, with no process yet: the record behind it begins at `end`.
+// AR, with no process and no tie yet: the record behind it begins at `end`.
 pub fn opened(variables: u8, environment: u8, root: u8, end: usize) -> FrontRead
-    requires { ⌜ arFault (record { variables = variables; environment = environment; root = root; processes = [] }) ≡ false ⌝ }
-    ensures { λ r. ⌜ frontOf r ≡ proper (record { architecture = record { variables = variables; environment = environment; root = root; processes = [] }; end = end }) ⌝ }
+    requires { ⌜ arFault (record { variables = variables; environment = environment; root = root; processes = []; ties = [] }) ≡ false ⌝ }
+    ensures { λ r. ⌜ frontOf r ≡ proper (record { architecture = record { variables = variables; environment = environment; root = root; processes = []; ties = [] }; end = end }) ⌝ }
     ensures { λ r. ⌜ ((b : List ℕ) → end ≤ length b → FrontKnown b r) ⌝ }
 {
     let architecture = Architecture::opened(variables, environment, root);

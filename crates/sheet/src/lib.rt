@@ -11,6 +11,7 @@ ghost use Rattle.sheet.specs.Struct.{Arrays, FrontKnown, frontOf, readin
 mod behind;
 mod faults;
 mod front;
+mod tied;
 
 use architecture::Architecture;
 use automaton::Automaton;
@@ -22,11 +23,14 @@ use front::refuse;
 use model::AutomatonState;
 use model::Refusal;
 use model::Reply;
+use tied::read_ties;
 
 // Each record opens with one of these marks.
 pub const AR: [u8; 2] = *b"AR";
 
 pub const PR: [u8; 2] = *b"PR";
+
+pub const SY: [u8; 2] = *b"SY";
 
 pub const AU: [u8; 2] = *b"AU";
 
@@ -48,7 +52,7 @@ pub struct Reading {
     pub sheet: Sheet,
 }
 
-// AR and the PR records: where the record behind them begins, the mask of all outputs, and the count of composed states.
+// AR, the PR and the SY records: where the record behind them begins, the mask of all outputs, and the count of composed states.
 // Where the answer is a refusal, these are of what was read before it.
 pub struct FrontRead {
     pub answer: Reply,
@@ -93,7 +97,12 @@ pub fn read_front(sheet: &[u8]) -> FrontRead
     if ar_fault(variables, environment, root) {
         return refuse(Refusal::BadArchitecture, nothing);
     }
-    read_processes(sheet, opened(variables, environment, root, 5))
+    let front = read_processes(sheet, opened(variables, environment, root, 5));
+    let answer = front.answer;
+    if let Reply::Refused(_) = answer {
+        return front;
+    }
+    read_ties(sheet, front)
 }
 
 // The sheet that the bytes stand for, or its first fault.

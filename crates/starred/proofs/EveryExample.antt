@@ -2,14 +2,15 @@
 use mathlib.Core.Path.{refl}
 use Rattle.model.specs.Mask.{pack}
 use Rattle.model.specs.Compose.{step, initial, T, number, composed}
-use Rattle.model.specs.Choice.{entries, lowered, padRows, padded}
+use Rattle.model.specs.Reading.{readFront}
+use Rattle.model.specs.Choice.{entries, tableOf, keepsTies, lowered, padRows, padded}
 use Rattle.model.specs.RunGraph.{start, meets, met}
 use Rattle.model.specs.Computed.{successors}
 use Rattle.model.specs.Calls.{checkOf, findOf, judgeOf, annotateOf, writeOf, readOf, partOf}
 use Rattle.starred.specs.Examples.{Pinned}
 
 pub every-example : Pinned
-unfolding pack step initial T number composed entries lowered padRows padded start meets met successors checkOf findOf judgeOf annotateOf writeOf readOf partOf
+unfolding pack step initial T number composed readFront entries tableOf keepsTies lowered padRows padded start meets met successors checkOf findOf judgeOf annotateOf writeOf readOf partOf
 every-example = record {
   index-rises = refl;
   index-of-eight = refl;
@@ -22,6 +23,19 @@ every-example = record {
   zeros-behind = refl;
   own-rows = refl;
   never-raised = refl;
+  packed-first = refl;
+  packed-last = refl;
+  own-table = refl;
+  no-table = refl;
+  tie-kept = refl;
+  mask-differs = refl;
+  later-mask-differs = refl;
+  last-next-differs = refl;
+  place-by-place = refl;
+  chain-kept = refl;
+  chain-broken-first = refl;
+  chain-broken-last = refl;
+  padded-kept = refl;
   starts = refl;
   off-needs-none = refl;
   unless-one-missing = refl;
@@ -49,6 +63,24 @@ every-example = record {
   five-inputs = refl;
   at-most-256 = refl;
   above-256 = refl;
+  ties-read = refl;
+  circle-of-ties = refl;
+  bounds-differ = refl;
+  inputs-differ = refl;
+  outputs-differ = refl;
+  lengths-agree = refl;
+  same-process = refl;
+  no-left = refl;
+  no-right = refl;
+  neither = refl;
+  tie-before-owner = refl;
+  tie-cut = refl;
+  fourth-tie = refl;
+  fourth-tie-cut = refl;
+  tie-first = refl;
+  tie-first-cut = refl;
+  process-behind-tie = refl;
+  tie-behind-automaton = refl;
   five-before-six = refl;
   seventeen-states = refl;
   shared-bit = refl;
@@ -60,6 +92,14 @@ every-example = record {
   output-outside = refl;
   next-at-bound = refl;
   entries-before-room = refl;
+  broken-annotated = refl;
+  broken-judged = refl;
+  broken-read = refl;
+  broken-part = refl;
+  broken-written = refl;
+  broken-malformed = refl;
+  broken-part-process = refl;
+  rest-not-tied = refl;
   write-entries-first = refl;
   write-room = refl;
   longer-book = refl;

@@ -25,4 +25,6 @@ every-row =
     and refl and refl and refl
     -- I
     and refl and refl and one-more-byte
+    -- S
+    and refl and refl and refl and refl
     and done

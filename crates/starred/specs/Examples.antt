@@ -6,16 +6,18 @@ use Prim.Native.Nat.{ℕ}
 use lib.ListN.{replicate, take}
 use Rattle.model.specs.declared.Finding.the-variants.{Yes, No}
 use Rattle.model.specs.declared.Verdict.{Verdict}
+use Rattle.model.specs.declared.Reply.{Reply}
 use Rattle.model.specs.Mask.{pack}
-use Rattle.model.specs.Sheet.{Process, Architecture, Edge, Sheet}
+use Rattle.model.specs.Sheet.{Process, Tie, Architecture, Edge, Sheet}
+use Rattle.model.specs.Reading.{proper, readFront}
 use Rattle.model.specs.Compose.{Composed, step, initial, T, number, composed}
-use Rattle.model.specs.Choice.{Entry, output, next, entries, lowered, padRows, padded}
+use Rattle.model.specs.Choice.{Entry, output, next, entries, tableOf, keepsTies, lowered, padRows, padded}
 use Rattle.model.specs.RunGraph.{start, meets, met}
 use Rattle.model.specs.Computed.{successors}
 use Rattle.model.specs.Calls.{checkOf, findOf, judgeOf, annotateOf, writeOf, readOf, partOf}
 use Rattle.model.specs.Numbers.{replyCode, verdictCode, outcomeCode}
-use Rattle.model.specs.BenchCases.{sheetA, sheetE, edge, choiceA, bookA, annotationA, bookE}
-use Rattle.starred.specs.Table.{buffer, found, annotated}
+use Rattle.model.specs.BenchCases.{sheetA, sheetE, edge, sheetS, tieS, choiceA, bookA, annotationA, bookE, bookS, both}
+use Rattle.starred.specs.Table.{buffer, found, annotated, looped}
 
 -- ---- two processes that read each other
 -- variable 0 is the environment's and 1 at the start; process 0 reads variables 0 and 2, and process 1 variable 1
@@ -26,7 +28,7 @@ abbrev pub second : Process
 second = record { inputs = 0x02; outputs = 0x04; bound = 3 }
 
 abbrev pub pair : Architecture
-pair = record { variables = 3; environment = 1; root = 1; processes = first ∷ second ∷ [] }
+pair = record { variables = 3; environment = 1; root = 1; processes = first ∷ second ∷ []; ties = [] }
 
 -- a process without variables, of two states
 abbrev pub two : Process
@@ -60,6 +62,44 @@ watched = record {
   };
 }
 
+-- ---- tied processes
+-- processes 0 and 2 have masks of other shapes; process 1, between them, has more entries
+abbrev pub benches : List Tie → Architecture
+benches ties = record {
+  variables = 6;
+  environment = 1;
+  root = 0;
+  processes = record { inputs = 0x01; outputs = 0x06; bound = 2 } ∷ record { inputs = 0x00; outputs = 0x10; bound = 4 } ∷ record { inputs = 0x02; outputs = 0x28; bound = 2 } ∷ [];
+  ties = ties;
+}
+
+-- processes 0 and 2 tied
+abbrev pub tied : Architecture
+tied = benches (both 0 2 ∷ [])
+
+-- tables for them, with these entries of process 2
+abbrev pub withLast : List ℕ → List ℕ
+withLast entries =
+    0x02 ∷ 0 ∷ 1 ∷ 0x06 ∷ 1 ∷ 0
+    ∷ 0x10 ∷ 3 ∷ 0x00 ∷ 2 ∷ 0x10 ∷ 1 ∷ 0x00 ∷ 0
+    ∷ entries
+
+-- the entries with which process 2 has the table of process 0
+abbrev pub alike : List ℕ
+alike = 0x08 ∷ 0 ∷ 1 ∷ 0x28 ∷ 1 ∷ 0 ∷ []
+
+-- a process without inputs, of one state
+abbrev pub owner : ℕ → Process
+owner outputs = record { inputs = 0x00; outputs = outputs; bound = 1 }
+
+-- three processes in a chain
+abbrev pub chained : Architecture
+chained = record { variables = 3; environment = 0; root = 0; processes = owner 0x01 ∷ owner 0x02 ∷ owner 0x04 ∷ []; ties = both 0 1 ∷ both 2 1 ∷ [] }
+
+-- their tables, with these masks
+abbrev pub masks : ℕ → ℕ → ℕ → List ℕ
+masks m₀ m₁ m₂ = m₀ ∷ 0 ∷ m₁ ∷ 0 ∷ m₂ ∷ 0 ∷ []
+
 -- ---- sheets and books as bytes
 -- AR: variables, environment variables, root mask
 abbrev pub ar : ℕ → ℕ → ℕ → List ℕ
@@ -68,6 +108,10 @@ ar variables environment root = 0x41 ∷ 0x52 ∷ variables ∷ environment ∷ 
 -- PR: input mask, output mask, bound
 abbrev pub pr : ℕ → ℕ → ℕ → List ℕ
 pr inputs outputs bound = 0x50 ∷ 0x52 ∷ inputs ∷ outputs ∷ bound ∷ []
+
+-- SY: two processes
+abbrev pub sy : ℕ → ℕ → List ℕ
+sy left right = 0x53 ∷ 0x59 ∷ left ∷ right ∷ []
 
 -- AU: states, initial state, rejecting mask below 256
 abbrev pub au : ℕ → ℕ → ℕ → List ℕ
@@ -108,6 +152,26 @@ behindAU more = ar 3 3 0 ++ pr 0 0 1 ++ au 1 0 0 ++ more
 -- case A, whose two waiting edges say `unless granted`
 abbrev pub waiting : List ℕ
 waiting = ar 4 2 0 ++ pr 0x03 0x0C 2 ++ au 4 0 0x0E ++ ed 0 0 0 0 ++ ed 0 3 0x0C 0 ++ ed 0 1 0x01 0 ++ ed 0 2 0x02 0 ++ ex 1 1 0x04 0 ++ ex 2 2 0x08 0 ++ ed 3 3 0 0 ++ en
+
+-- AR and PR of the three benches, and behind them these bytes
+abbrev pub behindPR : List ℕ → List ℕ
+behindPR more = ar 6 1 0 ++ pr 0x01 0x06 2 ++ pr 0x00 0x10 4 ++ pr 0x02 0x28 2 ++ more
+
+-- processes that differ from process 0 in the bound, in the number of inputs, and in the number of outputs; behind them a tie
+abbrev pub unalike : ℕ → ℕ → List ℕ
+unalike left right = ar 8 1 0 ++ pr 0x01 0x06 2 ++ pr 0x01 0x18 3 ++ pr 0x03 0x60 2 ++ pr 0x01 0x80 2 ++ sy left right
+
+-- case S
+abbrev pub caseS : List ℕ
+caseS = sheetS tieS []
+
+-- a book for it that breaks the tie
+abbrev pub broken : List ℕ
+broken = bookS 0x01 0x08
+
+-- the same, with another last byte
+abbrev pub malformed : List ℕ
+malformed = take 13 broken ++ (0x4F ∷ [])
 
 -- an EX from state 1, with these masks
 abbrev pub unless : ℕ → ℕ → Edge
@@ -150,6 +214,26 @@ pub record Pinned : Type 0 where
   pub own-rows : padRows (replicate 3 two) (3 ∷ 1 ∷ 1 ∷ []) (0 ∷ 1 ∷ 0 ∷ 1 ∷ 0 ∷ 1 ∷ 0 ∷ 1 ∷ []) ≡ 0 ∷ 1 ∷ 0 ∷ 1 ∷ 0 ∷ 1 ∷ 0 ∷ 0 ∷ 0 ∷ 1 ∷ 0 ∷ 0 ∷ []
   -- a bound is lowered and never raised
   pub never-raised : lowered (first ∷ second ∷ []) (5 ∷ 1 ∷ []) ≡ first ∷ record { inputs = 0x02; outputs = 0x04; bound = 1 } ∷ []
+  -- a table: masks packed to the process's own outputs, not as they stand nor moved down; next states as they are
+  pub packed-first : tableOf tied (withLast alike) 0 ≡ 1 ∷ 0 ∷ 1 ∷ 3 ∷ 1 ∷ 0 ∷ []
+  pub packed-last : tableOf tied (withLast (0x20 ∷ 0 ∷ 1 ∷ 0x08 ∷ 1 ∷ 1 ∷ [])) 2 ≡ 2 ∷ 0 ∷ 1 ∷ 1 ∷ 1 ∷ 1 ∷ []
+  -- of the process's own length; nothing where there is no such process
+  pub own-table : tableOf tied (withLast alike) 1 ≡ 1 ∷ 3 ∷ 0 ∷ 2 ∷ 1 ∷ 1 ∷ 0 ∷ 0 ∷ []
+  pub no-table : tableOf tied (withLast alike) 3 ≡ []
+  -- the tie is kept, and process 1 is free
+  pub tie-kept : keepsTies tied (withLast alike) ≡ true
+  -- it is broken by a mask with as many bits, by the mask of a later state, and by the last next state alone
+  pub mask-differs : keepsTies tied (withLast (0x20 ∷ 0 ∷ 1 ∷ 0x28 ∷ 1 ∷ 0 ∷ [])) ≡ false
+  pub later-mask-differs : keepsTies tied (withLast (0x08 ∷ 0 ∷ 1 ∷ 0x20 ∷ 1 ∷ 0 ∷ [])) ≡ false
+  pub last-next-differs : keepsTies tied (withLast (0x08 ∷ 0 ∷ 1 ∷ 0x28 ∷ 1 ∷ 1 ∷ [])) ≡ false
+  -- a next state at each place, not the same ones in another order
+  pub place-by-place : keepsTies tied (withLast (0x08 ∷ 1 ∷ 0 ∷ 0x28 ∷ 1 ∷ 0 ∷ [])) ≡ false
+  -- a chain: all, the first alone broken, the last alone broken
+  pub chain-kept : keepsTies chained (masks 1 2 4) ≡ true
+  pub chain-broken-first : keepsTies chained (masks 0 2 4) ≡ false
+  pub chain-broken-last : keepsTies chained (masks 1 2 0) ≡ false
+  -- fewer states: the tables that they stand for keep the tie, also where the bounds differ
+  pub padded-kept : keepsTies tied (padded tied (2 ∷ 1 ∷ 1 ∷ []) (2 ∷ 0 ∷ 0 ∷ 0 ∷ 0 ∷ 0 ∷ 0x10 ∷ 0 ∷ 8 ∷ 0 ∷ 0 ∷ [])) ≡ true
   -- the initial automaton state, not 0, with the root mask, not 0
   pub starts : start watched ≡ 25
   -- none of the off mask, where the label has one bit of two
@@ -177,7 +261,7 @@ pub record Pinned : Type 0 where
   -- a loop that can't be reached is no fault; its vertex is blank, and the rest of the buffer is left
   pub unreached : annotateOf (sheetE 1 2 2 (edge 1 1)) bookE (buffer 3) ≡ annotated (0 ∷ 65535 ∷ 7 ∷ [])
   -- a loop of two steps, rejecting at one of them
-  pub longer-loop : annotateOf (sheetE 1 2 2 (edge 0 1 ++ edge 1 0)) bookE (buffer 2) ≡ record { answer = Verdict.Found No; annotation = buffer 2 }
+  pub longer-loop : annotateOf (sheetE 1 2 2 (edge 0 1 ++ edge 1 0)) bookE (buffer 2) ≡ looped 2
   -- 65534 is a number
   pub greatest-number : judgeOf caseE bookE (65534 ∷ []) ≡ Verdict.Found Yes
   -- the initial vertex isn't blank
@@ -199,6 +283,30 @@ pub record Pinned : Type 0 where
   -- case J: T is 256, proper; 5 with a third process of bound 2
   pub at-most-256 : replyCode (checkOf (sheetJ [])) ≡ 0
   pub above-256 : replyCode (checkOf (sheetJ (pr 0 0 2))) ≡ 5
+  -- ties: in file order, with other masks, their numbers in either order, and repeated
+  pub ties-read : readFront (behindPR (sy 2 0 ++ sy 0 2 ++ sy 0 2)) ≡ proper record { architecture = benches (both 2 0 ∷ both 0 2 ∷ both 0 2 ∷ []); end = 32 }
+  -- three of them, in a circle
+  pub circle-of-ties : replyCode (checkOf (ar 0 0 0 ++ pr 0 0 1 ++ pr 0 0 1 ++ pr 0 0 1 ++ sy 0 1 ++ sy 1 2 ++ sy 2 0 ++ au 1 0 0 ++ en)) ≡ 0
+  -- 15: unequal bounds, counts of inputs, counts of outputs, also where tables would have as many entries; one process twice; a process that there is not
+  pub bounds-differ : replyCode (checkOf (unalike 0 1)) ≡ 15
+  pub inputs-differ : replyCode (checkOf (unalike 0 2)) ≡ 15
+  pub outputs-differ : replyCode (checkOf (unalike 3 0)) ≡ 15
+  pub lengths-agree : replyCode (checkOf (ar 1 1 0 ++ pr 0x00 0x00 3 ++ pr 0x01 0x00 2 ++ sy 0 1)) ≡ 15
+  pub same-process : replyCode (checkOf (unalike 1 1)) ≡ 15
+  pub no-left : replyCode (checkOf (unalike 4 0)) ≡ 15
+  pub no-right : replyCode (checkOf (unalike 0 4)) ≡ 15
+  pub neither : replyCode (checkOf (unalike 4 5)) ≡ 15
+  -- 15 before 5
+  pub tie-before-owner : replyCode (checkOf (ar 1 0 0 ++ pr 0 0 1 ++ sy 0 0 ++ au 1 0 0)) ≡ 15
+  -- 1: a third SY that is cut off, whatever its first number
+  pub tie-cut : replyCode (checkOf (behindPR (sy 0 2 ++ sy 0 2 ++ take 3 (sy 9 0)))) ≡ 1
+  -- 2: a fourth SY, whatever its numbers, or cut off; an SY before any PR; a PR behind an SY; an SY behind AU
+  pub fourth-tie : replyCode (checkOf (behindPR (sy 0 2 ++ sy 0 2 ++ sy 0 2 ++ sy 9 9))) ≡ 2
+  pub fourth-tie-cut : replyCode (checkOf (behindPR (sy 0 2 ++ sy 0 2 ++ sy 0 2 ++ take 2 (sy 0 2)))) ≡ 2
+  pub tie-first : replyCode (checkOf (ar 0 0 0 ++ sy 0 0)) ≡ 2
+  pub tie-first-cut : replyCode (checkOf (ar 0 0 0 ++ take 2 (sy 0 0))) ≡ 2
+  pub process-behind-tie : replyCode (checkOf (behindPR (sy 0 2 ++ take 2 (pr 0 0 1)))) ≡ 2
+  pub tie-behind-automaton : replyCode (checkOf (behindPR (au 1 0 0 ++ take 2 (sy 0 2)))) ≡ 2
   -- 5 before 6: a variable without an owner, and no automaton state
   pub five-before-six : replyCode (checkOf (ar 1 0 0 ++ pr 0 0 1 ++ au 0 0 0)) ≡ 5
   -- 6: more than 16 automaton states
@@ -217,6 +325,16 @@ pub record Pinned : Type 0 where
   pub output-outside : verdictCode (judgeOf caseE (tb 0 1 0 ++ en) []) ≡ 11
   pub next-at-bound : verdictCode (judgeOf caseE (tb 0 0 1 ++ en) []) ≡ 11
   pub entries-before-room : verdictCode (judgeOf caseE bookE []) ≡ 9
+  -- a broken tie: 11 in every call, before 9 and before 8, and behind 12 and 10
+  pub broken-annotated : verdictCode (annotateOf caseS broken [] .answer) ≡ 11
+  pub broken-judged : verdictCode (judgeOf caseS broken []) ≡ 11
+  pub broken-read : replyCode (readOf caseS broken .answer) ≡ 11
+  pub broken-part : replyCode (partOf caseS broken 1 .answer) ≡ 11
+  pub broken-written : replyCode (writeOf caseS (0x01 ∷ 0 ∷ 0x08 ∷ 0 ∷ []) [] .answer) ≡ 11
+  pub broken-malformed : verdictCode (annotateOf caseS malformed [] .answer) ≡ 10
+  pub broken-part-process : replyCode (partOf caseS malformed 2 .answer) ≡ 12
+  -- what is behind the entries breaks no tie
+  pub rest-not-tied : writeOf caseS (0x01 ∷ 0 ∷ 0x02 ∷ 0 ∷ 1 ∷ 9 ∷ []) (buffer 15) ≡ record { answer = Reply.Done; book = bookS 0x01 0x02 ++ buffer 1 }
   -- writing: 11 before 8
   pub write-entries-first : replyCode (writeOf caseE (1 ∷ 0 ∷ []) [] .answer) ≡ 11
   pub write-room : replyCode (writeOf caseE (0 ∷ 0 ∷ []) (buffer 7) .answer) ≡ 8

@@ -1,4 +1,4 @@
--- 01, "Bench cases": the starred ones, one table over the definitions of the calls.
+-- 01, "Bench cases": the starred ones, and case S of tied processes, one table over the definitions of the calls.
 use mathlib.Core.Path.{_≡_}
 use mathlib.Core.List.{List, [], _∷_, _++_}
 use Prim.Native.Nat.{ℕ}
@@ -7,9 +7,10 @@ use Rattle.model.specs.declared.Finding.the-variants.{Yes, No}
 use Rattle.model.specs.declared.Verdict.{Verdict}
 use Rattle.model.specs.declared.Reply.{Reply}
 use Rattle.model.specs.declared.Outcome.{Outcome}
+use Rattle.model.specs.RunGraph.{blank}
 use Rattle.model.specs.Calls.{AfterFind, AfterAnnotate, checkOf, findOf, judgeOf, annotateOf}
 use Rattle.model.specs.Numbers.{replyCode}
-use Rattle.model.specs.BenchCases.{sheetA, sheetC, sheetE, edge, bookA, annotationA, bookD, bookE}
+use Rattle.model.specs.BenchCases.{sheetA, sheetC, sheetE, edge, sheetS, tieS, edgeS, bookA, annotationA, bookD, bookE, bookS}
 
 -- a lent buffer of this length: it holds 7
 abbrev pub buffer : ℕ → List ℕ
@@ -56,6 +57,10 @@ found book annotation = record { answer = Outcome.Tables; book = book; annotatio
 abbrev pub annotated : List ℕ → AfterAnnotate
 annotated annotation = record { answer = Verdict.Found Yes; annotation = annotation }
 
+-- `loop`, and a buffer of this length as it was
+abbrev pub looped : ℕ → AfterAnnotate
+looped annotation = record { answer = Verdict.Found No; annotation = buffer annotation }
+
 -- ---- the table
 -- A: the arbiter. The buffers are longer by one than they need to be
 abbrev pub rowA : Row
@@ -98,4 +103,9 @@ starred =
     ∷ refuses [] 1
     ∷ refuses (0x41 ∷ []) 1
     ∷ rowI
+    -- S: found with the tie; without it the first tables have masks 01, 08; `none` with a further edge. Masks 01, 02 keep the tie, and loop
+    ∷ find (sheetS tieS []) 14 2 (found (bookS 0x05 0x0A) (0 ∷ blank ∷ []))
+    ∷ find (sheetS [] []) 14 2 (found (bookS 0x01 0x08) (0 ∷ blank ∷ []))
+    ∷ find (sheetS tieS edgeS) 14 2 (none 14 2)
+    ∷ annotate-leaves (sheetS tieS []) (bookS 0x01 0x02) 2 (looped 2)
     ∷ []

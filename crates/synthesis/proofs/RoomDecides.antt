@@ -1,6 +1,6 @@
 -- What the room for a book and an annotation decides, and what is written where there is room.
 use mathlib.Core.Path.{_≡_, refl, sym, ap, _∙_}
-use mathlib.Core.Bool.{true, false, not}
+use mathlib.Core.Bool.{false}
 use mathlib.Core.List.{List, _++_}
 use Prim.Native.Nat.{ℕ}
 use native.Mathlib.Omega.{arith}
@@ -10,12 +10,13 @@ use Rattle.model.specs.declared.Refusal.the-variants.{BookBufferTooShort, Annot
 use Rattle.model.specs.declared.Reply.{Reply}
 use Rattle.model.specs.Sheet.{Sheet}
 use Rattle.model.specs.Reading.{Reading, refused, proper}
-use Rattle.model.specs.Choice.{entries, IsChoice, fits, chosen}
+use Rattle.model.specs.Choice.{entries, IsChoice, chosen}
 use Rattle.model.specs.Computed.{loops, annotation}
-use Rattle.model.specs.Book.{form, bookLength, bookOf, entryFault}
+use Rattle.model.specs.Book.{form, bookLength, bookOf}
 use Rattle.model.specs.Calls.{front, reply, bookShort, annotationShort, roomToFind, roomFor, annotatedBy, annotated, writtenFor}
 use Rattle.model.proofs.ProperSheet.{passes}
-use Rattle.model.proofs.FitsTest.{fits-length, fits-front}
+use Rattle.model.proofs.FitsTest.{fits-length}
+use Rattle.model.proofs.BookRead.{chosen-faultless}
 use Rattle.model.proofs.BookInverse.{filled-front, holes-form}
 use Rattle.model.proofs.Refusing.{go}
 
@@ -47,13 +48,12 @@ module _ (s : Sheet) (tables book ann : List ℕ) (choice : IsChoice (s .archite
 
   -- what follows the entries plays no part
   pub book-written : writtenFor (s .architecture) tables book ≡ proper (bookOf (s .architecture) (chosen (s .architecture) tables))
-  unfolding writtenFor entryFault bookOf roomToFind
+  unfolding writtenFor bookOf roomToFind
   book-written =
       let rest : List ℕ = drop (length (entries (s .architecture))) tables in
-      let fitting : fits (entries (s .architecture)) tables ≡ true = ap (fits (entries (s .architecture))) (sym whole) ∙ fits-front rest choice in
       let same : bookOf (s .architecture) tables ≡ bookOf (s .architecture) (chosen (s .architecture) tables) =
-      ap (bookOf (s .architecture)) (sym whole) ∙ filled-front (form (s .architecture)) (chosen (s .architecture) tables) rest (fits-length choice ∙ sym (holes-form (s .architecture))) in
-      go _ _ (ap not fitting) ∙ go _ _ (passes BookBufferTooShort (bookShort (s .architecture) book) _ room .0) ∙ ap (λ (b : List ℕ). proper b) same
+      ap (bookOf (s .architecture)) (sym whole) ∙ filled-front (form (s .architecture)) (chosen (s .architecture) tables) rest (fits-length (choice .tables) ∙ sym (holes-form (s .architecture))) in
+      go _ _ (chosen-faultless (s .architecture) tables choice) ∙ go _ _ (passes BookBufferTooShort (bookShort (s .architecture) book) _ room .0) ∙ ap (λ (b : List ℕ). proper b) same
 
   pub annotation-written : loops s (chosen (s .architecture) tables) ≡ false
       → annotated (roomFor s (chosen (s .architecture) tables) ann) ann .annotation ≡ front (annotation s (chosen (s .architecture) tables)) ann

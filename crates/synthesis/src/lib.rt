@@ -24,6 +24,9 @@ fn first_tables(witness: &mut [u8; 272], sheet: Sheet) -> Searched
 {
     let mut fixed = [0u16; 6416];
     let n = exploration::prepare(&mut fixed, sheet);
+    let a = sheet.architecture;
+    let mut groups = [0u16; 544];
+    search::put_groups(&mut groups, a, n);
     let mut numbers = [0u16; 4096];
     let mut stack = [0u16; 4096];
     let mut waiting = [0u8; 4096];
@@ -34,6 +37,7 @@ fn first_tables(witness: &mut [u8; 272], sheet: Sheet) -> Searched
         n,
         sheet,
         &fixed,
+        &groups,
         &mut numbers,
         &mut stack,
         &mut waiting,

@@ -8,7 +8,7 @@ use lib.ListN.{length, drop, length-drop}
 use lib.Seq.{take-append-le, drop-append-le}
 use Rattle.model.specs.Sheet.{Process, Architecture}
 use Rattle.model.specs.Compose.{rowLength, rowAt, processLength}
-use Rattle.model.specs.Choice.{entries, IsChoice}
+use Rattle.model.specs.Choice.{entries, IsTables}
 use Rattle.model.proofs.FitsTest.{fits-length}
 use Rattle.architecture.specs.Struct.{entriesOf}
 use Rattle.architecture.proofs.ProcessesOfArrays.{rows-length}
@@ -43,10 +43,10 @@ module _ (c r : List ℕ) where
     processes-from i (p ∷ ps) at h =
         ap₂ (λ (text rest : List ℕ). text ++ rest) (own i p at (omega arith)) (processes-from (suc i) ps (at + processLength p) (omega arith))
 
-    pub processes-front : (a : Architecture) → IsChoice a c → eachProcess (one (c ++ r)) 0 (a .processes) 0 ≡ eachProcess (one c) 0 (a .processes) 0
+    pub processes-front : (a : Architecture) → IsTables a c → eachProcess (one (c ++ r)) 0 (a .processes) 0 ≡ eachProcess (one c) 0 (a .processes) 0
     unfolding entries
     processes-front a f = processes-from 0 (a .processes) 0 (omega (arith, fits-length f, rows-length (a .processes)))
 
-  pub text-front : (a : Architecture) (annotation : List ℕ) → IsChoice a c → textOf a (c ++ r) annotation ≡ textOf a c annotation
+  pub text-front : (a : Architecture) (annotation : List ℕ) → IsTables a c → textOf a (c ++ r) annotation ≡ textOf a c annotation
   unfolding textOf
   text-front a annotation f = rw (processes-front rowsText (λ i p at. rows-front (rowText i) p at) a f)

@@ -12,7 +12,7 @@ use lib.ListN.{length, getD, take, drop, length-append, drop-of-length-le, List�
 use lib.Seq.{drop-cons, getD-at, getD-take, length-take-le}
 use borrow.Author.Tests.{eqb-true, eq-eqb}
 use Rattle.theory.proofs.Bools.{and-is}
-use Rattle.theory.specs.Lists.{Distinct, none, one-more, Pairwise, empty, before, from, below, one, put, filter, count, member, tab, greatest, all}
+use Rattle.theory.specs.Lists.{Distinct, none, one-more, Pairwise, empty, before, from, below, one, put, filter, count, member, tab, greatest, all, same}
 
 abbrev Subset : List ℕ → List ℕ → Type 0
 Subset xs ys = (x : ℕ) → List·Memᴰ x xs → List·Memᴰ x ys
@@ -72,12 +72,12 @@ below-has (suc n) x l = by (ℕ-discrete x n) (λ h. below-has n x h)
 pub distinct-short : {xs : List ℕ} (n : ℕ) → Distinct xs → ((x : ℕ) → List·Memᴰ x xs → x < n) → length xs ≤ n
 distinct-short n d h = omega (arith, below-length n, pigeonhole (below n) d (λ x m. below-has n x (h x m)))
 
-put-length : (b : Bool) (x : ℕ) (xs : List ℕ) → length (put b x xs) ≡ one b + length xs
+put-length : {A : Type 0} (b : Bool) (x : A) (xs : List A) → length (put b x xs) ≡ one b + length xs
 unfolding put one
 put-length true x xs = omega arith
 put-length false x xs = omega arith
 
-pub filter-length : (p : ℕ → Bool) (x : ℕ) (xs : List ℕ) → length (filter p (x ∷ xs)) ≡ one (p x) + length (filter p xs)
+pub filter-length : {A : Type 0} (p : A → Bool) (x : A) (xs : List A) → length (filter p (x ∷ xs)) ≡ one (p x) + length (filter p xs)
 unfolding filter
 filter-length p x xs = put-length (p x) x (filter p xs)
 
@@ -127,7 +127,7 @@ count-fewer p q (suc n) v h l e i = by (ℕ-discrete v n) (λ m. count-fewer p q
     by (yes a) ih = rw (← a) (omega (arith, ap one e, ap one i, count-mono p q v h))
     by (no a) ih = omega (arith, one-mono (p n) (q n) (h n), ih (omega arith))
 
-pub filter-sound : (p : ℕ → Bool) (x : ℕ) (xs : List ℕ) → List·Memᴰ x (filter p xs) → List·Memᴰ x xs × (p x ≡ true)
+pub filter-sound : {A : Type 0} (p : A → Bool) (x : A) (xs : List A) → List·Memᴰ x (filter p xs) → List·Memᴰ x xs × (p x ≡ true)
 unfolding filter
 filter-sound p x [] m = absurd (List·Memᴰ·not-nil m)
 filter-sound p x (y ∷ ys) m = by (p y) refl m (λ i. filter-sound p x ys i)
@@ -137,7 +137,7 @@ filter-sound p x (y ∷ ys) m = by (p y) refl m (λ i. filter-sound p x ys i)
     by true e (List·Memᴰ·head q) ih = (List·Memᴰ·head q, ap p q ∙ e)
     by true e (List·Memᴰ·tail i) ih = (List·Memᴰ·tail (ih i .0), ih i .1)
 
-pub filter-complete : (p : ℕ → Bool) (x : ℕ) (xs : List ℕ) → List·Memᴰ x xs → p x ≡ true → List·Memᴰ x (filter p xs)
+pub filter-complete : {A : Type 0} (p : A → Bool) (x : A) (xs : List A) → List·Memᴰ x xs → p x ≡ true → List·Memᴰ x (filter p xs)
 unfolding filter put
 filter-complete p x (y ∷ ys) (List·Memᴰ·head q) e = rw (sym (ap p q) ∙ e) (List·Memᴰ·head q)
 filter-complete p x (y ∷ ys) (List·Memᴰ·tail m) e = by (p y) (filter-complete p x ys m e)
@@ -145,6 +145,22 @@ filter-complete p x (y ∷ ys) (List·Memᴰ·tail m) e = by (p y) (filter-compl
     by : (b : Bool) → List·Memᴰ x (filter p ys) → List·Memᴰ x (put b y (filter p ys))
     by true i = List·Memᴰ·tail i
     by false i = i
+
+-- where all pass, all are kept
+pub filter-all : {A : Type 0} (p : A → Bool) (xs : List A) → ((x : A) → p x ≡ true) → filter p xs ≡ xs
+unfolding filter put
+filter-all p [] h = refl
+filter-all {A} p (x ∷ xs) h = rw (h x) (ap (λ (r : List A). x ∷ r) (filter-all p xs h))
+
+-- what holds between each and all that follow holds between those that are kept
+pub filter-pairwise : {A : Type 0} {R : A → A → Type 0} (p : A → Bool) {xs : List A} → Pairwise R xs → Pairwise R (filter p xs)
+unfolding filter put
+filter-pairwise p empty = empty
+filter-pairwise {R = R} p (before {x = x} {xs = xs} h r) = by (p x) (filter-pairwise p r)
+  where
+    by : (b : Bool) → Pairwise R (filter p xs) → Pairwise R (put b x (filter p xs))
+    by true k = before (λ y m. h y (filter-sound p y xs m .0)) k
+    by false k = k
 
 filter-distinct : (p : ℕ → Bool) {xs : List ℕ} → Distinct xs → Distinct (filter p xs)
 unfolding filter put
@@ -179,7 +195,7 @@ unfolding member
 member-complete x (y ∷ ys) (List·Memᴰ·head e) = rw (eq-eqb x y e)
 member-complete x (y ∷ ys) (List·Memᴰ·tail m) = rw (member-complete x ys m) (or-true (eqb x y))
 
-tab-from : (h : ℕ → ℕ) (n i v d : ℕ) → v < n → getD (tab h n i) v d ≡ h (i + v)
+pub tab-from : (h : ℕ → ℕ) (n i v d : ℕ) → v < n → getD (tab h n i) v d ≡ h (i + v)
 unfolding tab
 tab-from h zero i v d l = absurd (omega arith)
 tab-from h (suc n) i zero d l = ap h (omega arith)
@@ -189,7 +205,7 @@ pub tab-at : (h : ℕ → ℕ) (n v d : ℕ) → v < n → getD (tab h n 0) v d 
 tab-at h n v d l = tab-from h n 0 v d l ∙ ap h (omega arith)
 
 -- an element of a list does not depend on the default
-pub any-default : (l : List ℕ) (i a b : ℕ) → i < length l → getD l i a ≡ getD l i b
+pub any-default : {A : Type 0} (l : List A) (i : ℕ) (a b : A) → i < length l → getD l i a ≡ getD l i b
 any-default [] i a b h = absurd (omega arith)
 any-default (x ∷ l) zero a b h = refl
 any-default (x ∷ l) (suc i) a b h = any-default l i a b (omega arith)
@@ -215,16 +231,34 @@ unfolding greatest
 greatest-above h x (y ∷ ys) (List·Memᴰ·head e) = omega (arith, ap h e)
 greatest-above h x (y ∷ ys) (List·Memᴰ·tail m) = omega (arith, greatest-above h x ys m)
 
-pub all-is : (p : ℕ → Bool) (xs : List ℕ) → (all p xs ≡ true) ↔ ((x : ℕ) → List·Memᴰ x xs → p x ≡ true)
+pub all-is : {A : Type 0} (p : A → Bool) (xs : List A) → (all p xs ≡ true) ↔ ((x : A) → List·Memᴰ x xs → p x ≡ true)
 unfolding all
 all-is p [] = (λ e x m. absurd (List·Memᴰ·not-nil m), λ h. refl)
-all-is p (y ∷ ys) = by (all-is p ys)
+all-is {A} p (y ∷ ys) = by (all-is p ys)
   where
-    by : (all p ys ≡ true) ↔ ((x : ℕ) → List·Memᴰ x ys → p x ≡ true) → ((p y && all p ys) ≡ true) ↔ ((x : ℕ) → List·Memᴰ x (y ∷ ys) → p x ≡ true)
+    by : (all p ys ≡ true) ↔ ((x : A) → List·Memᴰ x ys → p x ≡ true) → ((p y && all p ys) ≡ true) ↔ ((x : A) → List·Memᴰ x (y ∷ ys) → p x ≡ true)
     by ih = (
       λ e x m. ⊎-elim (λ (q : x ≡ y). ap p q ∙ and-is (p y) (all p ys) .0 e .0) (λ i. ih .0 (and-is (p y) (all p ys) .0 e .1) x i) (List·Memᴰ·cases-cons m),
       λ h. and-is (p y) (all p ys) .1 (h y (List·Memᴰ·head refl), ih .1 (λ x m. h x (List·Memᴰ·tail m))),
     )
+
+-- ---- equal lists
+same-itself : (ys : List ℕ) → same ys ys ≡ true
+unfolding same
+same-itself [] = refl
+same-itself (y ∷ ys) = and-is (eqb y y) (same ys ys) .1 (eq-eqb y y refl, same-itself ys)
+
+same-sound : (xs ys : List ℕ) → same xs ys ≡ true → xs ≡ ys
+unfolding same
+same-sound [] [] e = refl
+same-sound [] (y ∷ ys) e = absurd (true≢false (sym e))
+same-sound (x ∷ xs) [] e = absurd (true≢false (sym e))
+same-sound (x ∷ xs) (y ∷ ys) e =
+    let h = and-is (eqb x y) (same xs ys) .0 e in
+    ap₂ (λ (v : ℕ) (vs : List ℕ). v ∷ vs) (eqb-true x y (h .0)) (same-sound xs ys (h .1))
+
+pub same-is : (xs ys : List ℕ) → (same xs ys ≡ true) ↔ (xs ≡ ys)
+same-is xs ys = (same-sound xs ys, λ e. rw e (same-itself ys))
 
 -- ---- the numbers from i on
 pub from-has : (n i x : ℕ) → i ≤ x → x < i + n → List·Memᴰ x (from n i)

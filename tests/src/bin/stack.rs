@@ -8,7 +8,7 @@ use std::thread;
 use soclethyme_tests::bench_cases::{case_a, case_c};
 use soclethyme_tests::book::LONGEST_BOOK;
 use soclethyme_tests::ffi;
-use soclethyme_tests::many_choices::{counters, opening, relay, three_clients};
+use soclethyme_tests::many_choices::{counters, opening, relay, three_clients, tied_openings};
 use soclethyme_tests::sheet::{Sheet, MOST_VERTICES};
 
 /// What is painted; the thread's stack is larger.
@@ -67,6 +67,7 @@ fn main() {
     measure("three clients, bounds 3 and 2", three_clients(3, 2));
     measure("relay, bounds 3 and 3", relay(3, 3));
     measure("opening, bound 3", opening(3));
+    measure("tied openings, bounds 3", tied_openings(3));
     measure("counters, no environment", counters(0));
     measure("counters, one variable", counters(1));
 }

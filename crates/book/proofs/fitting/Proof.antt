@@ -6,7 +6,7 @@ use Rattle.book.specs.Answers.{fittingBy}
 use Rattle.book.proofs.fitting.Statement.{statement}
 use Rattle.book.proofs.fitting.Tie as tie
 
--- `if choice::entry_fault(a, &tables)`
+-- `if ties::entry_fault(a, &tables)`
 entry-fault-requires : tie.Need-entry-fault-requires
 entry-fault-requires c κs = search needs
 

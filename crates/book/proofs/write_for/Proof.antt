@@ -16,7 +16,7 @@ use Rattle.book.proofs.OneSlotMore.{form-holes}
 use Rattle.book.proofs.write_for.Statement.{statement}
 use Rattle.book.proofs.write_for.Tie as tie
 
--- `if choice::entry_fault(a, tables)`
+-- `if ties::entry_fault(a, tables)`
 entry-fault-requires : tie.Need-entry-fault-requires
 entry-fault-requires c κs = search needs
 

@@ -1,15 +1,15 @@
 -- `drawing::put_condition` meets its contract: the inputs that are on are among the inputs, and the others are off.
 use native.Mathlib.Omega.{arith}
 use borrow.Author.Needs.{needs}
-use Rattle.drawing.proofs.Unpacked.{unpack-le}
+use Rattle.ties.proofs.Unpacked.{unpack-le}
 use Rattle.drawing.proofs.put_condition.Statement.{statement}
 use Rattle.drawing.proofs.put_condition.Tie as tie
 
--- `let on = unpack(mask, index) as usize`
+-- `let on = ties::unpack(mask, index) as usize`
 unpack-requires : tie.Need-unpack-requires
 unpack-requires c κs = search needs
 
--- `let on = unpack(mask, index) as usize`
+-- `let on = ties::unpack(mask, index) as usize`
 cast-on : tie.Need-cast-on
 cast-on c = search needs
 

@@ -9,7 +9,7 @@ use Rattle.architecture.specs.Struct.{IsProper, architectureOf}
 use Rattle.sheet.specs.Struct.{sheetOf}
 use Rattle.sheet.proofs.AnswersOfReading.{architecture-proper}
 use Rattle.template.specs.Holds.{Holds}
-use Rattle.find.proofs.FoundBuffers.{Chose, chose, book-whole, annotation-counted, are-choice, text-is}
+use Rattle.find.proofs.FoundBuffers.{Chose, chose, book-whole, annotation-counted, are-tables, text-is}
 use Rattle.find.proofs.choice_text.Statement.{statement}
 use Rattle.find.proofs.choice_text.Tie as tie
 
@@ -61,7 +61,7 @@ tables-text-requires : tie.Need-tables-text-requires
 tables-text-requires c κs =
     let r = read (c .before .before .before) in
     let b = entry (long r) in
-    let fit = are-choice _ _ _ (chosen b) _ (long r .book-length .ensures .0) (r .read-for .result) (r .read-for .ensures) in
+    let fit = are-tables _ _ _ (chosen b) _ (long r .book-length .ensures .0) (r .read-for .result) (r .read-for .ensures) in
     (b .pre .0, (whole b, omega (arith, fits-length fit, length-take (length (entries (architectureOf (b .args .sheet .architecture)))) (r .read-for .result .tables))))
 
 -- `text::tables_text(text, a, &tables, &annotation[..vertices])`

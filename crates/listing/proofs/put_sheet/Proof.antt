@@ -1,16 +1,16 @@
--- `listing::put_sheet` meets its contract: its five parts, each behind the one before.
+-- `listing::put_sheet` meets its contract: its six parts, each behind the one before.
 use mathlib.Core.List.{List, _++_}
 use Prim.Native.Nat.{ℕ, _+_, _≤_}
 use native.Mathlib.Omega.{arith}
 use lib.ListN.{length}
 use borrow.Author.Needs.{needs}
-use Rattle.architecture.specs.Struct.{architectureOf, processesIn}
+use Rattle.architecture.specs.Struct.{architectureOf, processesIn, tiesIn}
 use Rattle.automaton.specs.Struct.{automatonOf, firstIn}
 use Rattle.sheet.proofs.AnswersOfReading.{architecture-proper}
 use Rattle.append.specs.Appends.{Appends}
 use Rattle.append.proofs.Appended.{room-front, append-more, append-room}
 use Rattle.text.specs.Rows.{edgesText}
-use Rattle.listing.specs.Listing.{frontText, processesText, statesText, edLine, exLine, countsText, showText}
+use Rattle.listing.specs.Listing.{frontText, processesText, tiesText, statesText, edLine, exLine, countsText, showText}
 use Rattle.listing.proofs.put_sheet.Statement.{statement}
 use Rattle.listing.proofs.put_sheet.Tie as tie
 
@@ -23,20 +23,26 @@ module _ (b : tie.Start) where
   two = front ++ processesText (processesIn (b .args .sheet .architecture))
 
   abbrev three : List ℕ
-  three = let u = b .args .sheet .automaton in two ++ statesText (u .states) (u .initial .0) (u .rejecting)
+  three = two ++ tiesText (tiesIn (b .args .sheet .architecture))
 
   abbrev four : List ℕ
-  four = let u = b .args .sheet .automaton in three ++ edgesText edLine exLine (firstIn u (u .edges))
+  four = let u = b .args .sheet .automaton in three ++ statesText (u .states) (u .initial .0) (u .rejecting)
+
+  abbrev five : List ℕ
+  five = let u = b .args .sheet .automaton in four ++ edgesText edLine exLine (firstIn u (u .edges))
 
   abbrev Room : List ℕ → Type 0
   Room part = 0 + length part ≤ length (b .args .text .now)
 
-  room-all : Room (four ++ countsText (architectureOf (b .args .sheet .architecture)))
+  room-all : Room (five ++ countsText (architectureOf (b .args .sheet .architecture)))
   unfolding showText architectureOf automatonOf
   room-all = omega (arith, b .pre .1)
 
+  room-five : Room five
+  room-five = room-front _ _ five _ room-all
+
   room-four : Room four
-  room-four = room-front _ _ four _ room-all
+  room-four = room-front _ _ four _ room-five
 
   room-three : Room three
   room-three = room-front _ _ three _ room-four
@@ -59,18 +65,25 @@ module _ (c : tie.After-put-processes) where
   listed : Appends (start₂ .args .text .now) 0 (two start₂) (c .put-processes .result) (c .put-processes .last .0)
   listed = append-more (fronted (c .before .before .before .before)) (c .put-processes .ensures)
 
-module _ (c : tie.After-put-states) where
+module _ (c : tie.After-put-ties) where
   abbrev start₃ : tie.Start
   start₃ = start₂ (c .before .before .before .before)
 
-  stated : Appends (start₃ .args .text .now) 0 (three start₃) (c .put-states .result) (c .put-states .last .0)
-  stated = append-more (listed (c .before .before .before .before)) (c .put-states .ensures)
+  tied : Appends (start₃ .args .text .now) 0 (three start₃) (c .put-ties .result) (c .put-ties .last .0)
+  tied = append-more (listed (c .before .before .before .before)) (c .put-ties .ensures)
+
+module _ (c : tie.After-put-states) where
+  abbrev start₄ : tie.Start
+  start₄ = start₃ (c .before .before .before .before)
+
+  stated : Appends (start₄ .args .text .now) 0 (four start₄) (c .put-states .result) (c .put-states .last .0)
+  stated = append-more (tied (c .before .before .before .before)) (c .put-states .ensures)
 
 module _ (c : tie.After-put-edges) where
-  abbrev start₄ : tie.Start
-  start₄ = start₃ (c .before .before .before .before .before .before)
+  abbrev start₅ : tie.Start
+  start₅ = start₄ (c .before .before .before .before .before .before)
 
-  joined : Appends (start₄ .args .text .now) 0 (four start₄) (c .put-edges .result) (c .put-edges .last .0)
+  joined : Appends (start₅ .args .text .now) 0 (five start₅) (c .put-edges .result) (c .put-edges .last .0)
   joined = append-more (stated (c .before .before .before .before .before .before)) (c .put-edges .ensures)
 
 -- `let after_front = put_front(text, 0, a)`
@@ -86,9 +99,16 @@ put-processes-requires c κs =
     let b = entry f in
     (architecture-proper (b .args .sheet) (b .pre .0), append-room (fronted f) _ (room-two b))
 
--- `let after_states = put_states(text, after_processes, u)`
+-- `let after_ties = put_ties(text, after_processes, a)`
+put-ties-requires : tie.Need-put-ties-requires
+put-ties-requires c κs =
+    let p = c .before .before .before in
+    let b = start₂ p in
+    (architecture-proper (b .args .sheet) (b .pre .0), append-room (listed p) _ (room-three b))
+
+-- `let after_states = put_states(text, after_ties, u)`
 put-states-requires : tie.Need-put-states-requires
-put-states-requires c κs = let p = c .before .before .before in append-room (listed p) _ (room-three (start₂ p))
+put-states-requires c κs = let t = c .before .before .before in append-room (tied t) _ (room-four (start₃ t))
 
 -- `b"edge # to # on @ off @\n"`
 slice-aggregate-put-edges : tie.Need-slice-aggregate-put-edges
@@ -102,13 +122,13 @@ slice-aggregate-put-edges-2 c = search needs
 put-edges-requires : tie.Need-put-edges-requires
 put-edges-requires c κs =
     let s = c .before .before .before .before .before in
-    (start₃ s .pre .0 .arrays .automaton, append-room (stated s) _ (room-four (start₃ s)))
+    (start₄ s .pre .0 .arrays .automaton, append-room (stated s) _ (room-five (start₄ s)))
 
 -- `put_counts(text, after_edges, a)`
 put-counts-requires : tie.Need-put-counts-requires
 put-counts-requires c κs =
     let e = c .before .before .before in
-    let b = start₄ e in
+    let b = start₅ e in
     (architecture-proper (b .args .sheet) (b .pre .0), append-room (joined e) _ (room-all b))
 
 -- `put_counts(text, after_edges, a)`
@@ -126,6 +146,7 @@ put-sheet-spec =
     (tie.spec
     put-front-requires
     put-processes-requires
+    put-ties-requires
     put-states-requires
     slice-aggregate-put-edges
     slice-aggregate-put-edges-2

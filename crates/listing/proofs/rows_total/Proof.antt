@@ -1,16 +1,26 @@
--- `listing::rows_total` meets its contract: a process has at most 4 rows of at most 16 indexes.
-use mathlib.Core.Path.{_≡_, ap₂}
+-- `listing::rows_total` meets its contract: a process that has its leader's table adds nothing, and any other has at most 4 rows of at most 16 indexes.
+use mathlib.Core.Path.{_≡_, sym, ap₂, _∙_}
 use Prim.Native.Nat.{ℕ, _+_, _-_, _*_, _^_, _≤_}
 use native.Mathlib.Nat.{mul-le-mul}
 use native.Mathlib.Omega.{arith}
 use lib.ListN.{getD}
 use lib.Pow.{pow-mono}
 use borrow.Author.Needs.{needs}
-use Rattle.model.specs.Mask.{count}
+use borrow.Author.Tests.{not-true, not-false}
+use Rattle.model.specs.Mask.{if, count}
 use Rattle.architecture.proofs.ProcessesOfArrays.{facts}
 use Rattle.listing.proofs.Exponents.{rows-few}
 use Rattle.listing.proofs.rows_total.Statement.{statement}
 use Rattle.listing.proofs.rows_total.Tie as tie
+
+-- `if !leads(a, i)`
+leads-requires : tie.Need-leads-requires
+leads-requires c κs = search needs
+
+-- `return 0`
+returns : tie.Need-returns
+unfolding if
+returns c = (rw (sym (c .before .leads .ensures) ∙ not-true _ (c .if1 .taken)), omega arith)
 
 -- `let indexes = architecture::row_length(a.inputs_of(i)) - 1`
 inputs-of-requires : tie.Need-inputs-of-requires
@@ -30,7 +40,7 @@ bound-of-requires c κs = search needs
 
 module _ (c : tie.After-bound-of) where
   abbrev entry : tie.Start
-  entry = c .before .before .before
+  entry = c .before .before .before .before .before
 
   -- the indexes, as the code has them
   abbrev indexes : ℕ
@@ -67,13 +77,21 @@ mul-result-2 : tie.Need-mul-result-2
 mul-result-2 c = omega (arith, all-few c)
 
 -- `a.bound_of(i) * (of_output + indexes * of_next)`
-returns : tie.Need-returns
-returns c = (ap₂ (λ (b k : ℕ). b * (entry c .args .of-output + k * entry c .args .of-next)) (c .bound-of .ensures) (indexes-are c), all-few c)
+returns-2 : tie.Need-returns-2
+unfolding if
+returns-2 c =
+    let l = c .before .before .before in
+    let o = entry c .args .of-output in
+    let n = entry c .args .of-next in
+    let own = sym (l .before .leads .ensures) ∙ not-false _ (l .if1 .left) in
+    (rw own (ap₂ (λ (b k : ℕ). b * (o + k * n)) (c .bound-of .ensures) (indexes-are c)), all-few c)
 
 pub rows-total-spec : {M : Type 1} → statement M
 rows-total-spec =
     tie.close
     (tie.spec
+    leads-requires
+    returns
     inputs-of-requires
     row-length-requires
     sub-indexes
@@ -81,4 +99,4 @@ rows-total-spec =
     mul-result
     add-result
     mul-result-2
-    returns)
+    returns-2)

@@ -1,19 +1,22 @@
--- `listing::threes` meets its contract. The invariant: the exponents so far, and those of the processes still due, are all.
+-- `listing::threes` meets its contract. The invariant: the exponents so far, and those of the processes still due that lead themselves, are all.
 use mathlib.Core.Path.{_≡_}
 use Prim.Native.Nat.{_+_, _-_, _*_, _≤_}
 use native.Mathlib.Omega.{arith}
-use lib.ListN.{drop}
+use lib.Dec.{eqb}
+use lib.ListN.{getD}
 use borrow.Author.Needs.{needs}
-use Rattle.model.specs.Choice.{rows, entries}
-use Rattle.architecture.specs.Struct.{processIn, processesIn, architectureOf}
-use Rattle.architecture.proofs.ProcessesOfArrays.{facts, processes-end}
+use Rattle.model.specs.Mask.{if}
+use Rattle.model.specs.Choice.{rows}
+use Rattle.architecture.specs.Struct.{processIn, tiesIn}
+use Rattle.architecture.proofs.ProcessesOfArrays.{facts}
+use Rattle.ties.specs.Leaders.{leaders}
 use Rattle.listing.specs.Listing.{threes, total}
-use Rattle.listing.proofs.Exponents.{threes-few, processTotal, total-turn}
+use Rattle.listing.proofs.Exponents.{threes-few, onceFrom, once-all, once-none, processTotal, total-turn}
 use Rattle.listing.proofs.threes.Statement.{statement}
 use Rattle.listing.proofs.threes.Tie as tie
 
 abbrev Inv-loop : tie.InvT-loop
-Inv-loop a n sum₀ i₀ sum i = (i ≤ n) × ((sum ≤ 160 * i) × (sum + total threes (rows (drop i (processesIn a))) ≡ total threes (rows (processesIn a))))
+Inv-loop a n sum₀ i₀ sum i = (i ≤ n) × ((sum ≤ 160 * i) × (sum + total threes (rows (onceFrom a i)) ≡ total threes (rows (onceFrom a 0))))
 
 abbrev μ-loop : tie.MeasureT-loop
 μ-loop a n sum₀ i₀ sum i = n - i
@@ -44,7 +47,8 @@ module _ (c : tie.After-rows-total Inv-loop μ-loop) where
   entry = turn .before .before
 
   -- what was added is process i's
-  added : c .rows-total .result ≡ processTotal threes (processIn (entry .args .a) (turn .before .loop .i))
+  added : c .rows-total .result ≡
+      let a = entry .args .a in let i = turn .before .loop .i in if (eqb (getD (leaders (a .processes) (tiesIn a)) i 0) i) (processTotal threes (processIn a i)) 0
   unfolding threes
   added = rw (c .before .next-threes .ensures, c .before .before .bound-of .ensures) at (c .rows-total .ensures .0)
 
@@ -65,16 +69,16 @@ loop-again : tie.Need-loop-again Inv-loop μ-loop
 loop-again c =
     let l = turn c .before .loop in
     let h = turn c .loop-test .taken in
-    (omega (arith, h), (omega (arith, l .inv .1 .0, c .rows-total .ensures .1), omega (arith, l .inv .1 .1, added c, total-turn threes (entry c .args .a) (l .i) h)))
+    (omega (arith, h), (omega (arith, l .inv .1 .0, c .rows-total .ensures .1), omega (arith, l .inv .1 .1, added c, total-turn threes (entry c .args .a) (entry c .pre) (l .i) h)))
 
 -- `sum`
 returns : tie.Need-returns Inv-loop μ-loop
-unfolding entries architectureOf rows total
+unfolding rows total
 returns c =
     let a = c .before .before .args .a in
     let l = c .before .loop in
     let e : l .i ≡ a .processes = omega arith in
-    omega (arith, rw (e, processes-end (a .inputs) (a .outputs) (a .bounds) (a .processes)) at (l .inv .1 .1))
+    omega (arith, rw (once-none a (c .before .before .pre) (l .i) e, once-all a) at (l .inv .1 .1))
 
 pub threes-spec : {M : Type 1} → statement M
 threes-spec =

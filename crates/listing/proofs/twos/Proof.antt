@@ -1,21 +1,23 @@
--- `listing::twos` meets its contract. The invariant: the exponents so far, and those of the processes still due, are all.
+-- `listing::twos` meets its contract. The invariant: the exponents so far, and those of the processes still due that lead themselves, are all.
 use mathlib.Core.Path.{_≡_}
 use Prim.Native.Nat.{_+_, _-_, _*_, _≤_}
 use native.Mathlib.Omega.{arith}
 use lib.Count.{ones, ones-le}
-use lib.ListN.{drop}
+use lib.Dec.{eqb}
+use lib.ListN.{getD}
 use borrow.Author.Needs.{needs}
-use Rattle.model.specs.Mask.{count}
-use Rattle.model.specs.Choice.{rows, entries}
-use Rattle.architecture.specs.Struct.{processIn, processesIn, architectureOf}
-use Rattle.architecture.proofs.ProcessesOfArrays.{facts, processes-end}
+use Rattle.model.specs.Mask.{if, count}
+use Rattle.model.specs.Choice.{rows}
+use Rattle.architecture.specs.Struct.{processIn, tiesIn}
+use Rattle.architecture.proofs.ProcessesOfArrays.{facts}
+use Rattle.ties.specs.Leaders.{leaders}
 use Rattle.listing.specs.Listing.{twos, total}
-use Rattle.listing.proofs.Exponents.{twos-few, processTotal, total-turn}
+use Rattle.listing.proofs.Exponents.{twos-few, onceFrom, once-all, once-none, processTotal, total-turn}
 use Rattle.listing.proofs.twos.Statement.{statement}
 use Rattle.listing.proofs.twos.Tie as tie
 
 abbrev Inv-loop : tie.InvT-loop
-Inv-loop a n sum₀ i₀ sum i = (i ≤ n) × ((sum ≤ 160 * i) × (sum + total twos (rows (drop i (processesIn a))) ≡ total twos (rows (processesIn a))))
+Inv-loop a n sum₀ i₀ sum i = (i ≤ n) × ((sum ≤ 160 * i) × (sum + total twos (rows (onceFrom a i)) ≡ total twos (rows (onceFrom a 0))))
 
 abbrev μ-loop : tie.MeasureT-loop
 μ-loop a n sum₀ i₀ sum i = n - i
@@ -60,7 +62,8 @@ module _ (c : tie.After-rows-total Inv-loop μ-loop) where
   entry = turn .before .before
 
   -- what was added is process i's
-  added : c .rows-total .result ≡ processTotal twos (processIn (entry .args .a) (turn .before .loop .i))
+  added : c .rows-total .result ≡
+      let a = entry .args .a in let i = turn .before .loop .i in if (eqb (getD (leaders (a .processes) (tiesIn a)) i 0) i) (processTotal twos (processIn a i)) 0
   unfolding twos count
   added = rw (c .before .before .before .outputs-of .ensures, c .before .next-twos .ensures, c .before .before .bound-of .ensures) at (c .rows-total .ensures .0)
 
@@ -81,16 +84,16 @@ loop-again : tie.Need-loop-again Inv-loop μ-loop
 loop-again c =
     let l = turn c .before .loop in
     let h = turn c .loop-test .taken in
-    (omega (arith, h), (omega (arith, l .inv .1 .0, c .rows-total .ensures .1), omega (arith, l .inv .1 .1, added c, total-turn twos (entry c .args .a) (l .i) h)))
+    (omega (arith, h), (omega (arith, l .inv .1 .0, c .rows-total .ensures .1), omega (arith, l .inv .1 .1, added c, total-turn twos (entry c .args .a) (entry c .pre) (l .i) h)))
 
 -- `sum`
 returns : tie.Need-returns Inv-loop μ-loop
-unfolding entries architectureOf rows total
+unfolding rows total
 returns c =
     let a = c .before .before .args .a in
     let l = c .before .loop in
     let e : l .i ≡ a .processes = omega arith in
-    omega (arith, rw (e, processes-end (a .inputs) (a .outputs) (a .bounds) (a .processes)) at (l .inv .1 .1))
+    omega (arith, rw (once-none a (c .before .before .pre) (l .i) e, once-all a) at (l .inv .1 .1))
 
 pub twos-spec : {M : Type 1} → statement M
 twos-spec =

@@ -8,14 +8,16 @@ use borrow.Author.Needs.{needs}
 use lib.ListN.{length}
 use Rattle.model.specs.declared.Reply.{Reply}
 use Rattle.model.specs.Sheet.{Architecture}
-use Rattle.model.specs.Reading.{short, arFault, architectureAt, readProcesses, readFront}
+use Rattle.model.specs.Reading.{Reading, Front, proper, _then_, short, arFault, architectureAt, readProcesses, readTies, readFront}
 use Rattle.architecture.specs.Struct.{architectureOf}
-use Rattle.sheet.specs.Struct.{FrontKnown}
+use Rattle.sheet.specs.declared.FrontRead.{FrontRead}
+use Rattle.sheet.specs.Struct.{FrontKnown, frontOf}
+use Rattle.model.proofs.ProperSheet.{processes-end}
 use Rattle.model.proofs.Refusing.{stop, go}
 use Rattle.sheet.proofs.RefusalTests.{fails, passes, too-few, enough}
-use Rattle.sheet.proofs.AnswersOfReading.{front-proper}
-use Rattle.architecture.proofs.ProcessesOfArrays.{count-is}
-use Rattle.sheet.proofs.ReadingOn.{opening, front-is}
+use Rattle.sheet.proofs.AnswersOfReading.{front-proper, front-refused, front-done}
+use Rattle.architecture.proofs.ProcessesOfArrays.{count-is, ties-count}
+use Rattle.sheet.proofs.ReadingOn.{opening, front-is, then-refused, then-proper}
 use Rattle.sheet.proofs.read_front.Statement.{statement}
 use Rattle.sheet.proofs.read_front.Tie as tie
 
@@ -146,14 +148,61 @@ read-processes-requires c κs =
     let none : c .opened2 .result .architecture .processes ≡ 0 = omega (arith, count-is (c .opened2 .result .architecture), ap (λ (a : Architecture). length (a .processes)) (f .1)) in
     (c .opened2 .ensures .1 (bytes (opening-at d)) (omega (arith, d .if3 .left)), (f .0, none))
 
--- `read_processes(sheet, opened(variables, environment, root, 5))`
+-- ---- the processes are read: what is behind them, by the answer
+abbrev Processes : Type 0
+Processes = tie.After-read-processes
+
+module _ (c : Processes) where
+  abbrev row : List ℕ
+  row = bytes (opening-at (fields (c .before .before .before)))
+
+  abbrev read : FrontRead
+  read = c .read-processes .result
+
+  abbrev all : Reading Front
+  all = readProcesses 4 (architectureAt row) row 5
+
+  -- the ties behind them
+  abbrev rest : Front → Reading Front
+  rest f = readTies 3 (f .architecture) row (f .end)
+
+  are-read : frontOf read ≡ all
+  are-read = let f = first (c .before) in c .read-processes .ensures .0 ∙ ap₂ (λ (a : Architecture) (i : ℕ). readProcesses 4 a row i) (f .1) (f .2)
+
+  front : readFront row ≡ (all then rest)
+  front = let d = fields (c .before .before .before) in opens (d .before) ∙ go _ _ (long d) ∙ go _ _ (sound (c .before .before))
+
+  done : read .answer ≡ Reply.Done → all ≡ proper record { architecture = architectureOf (read .architecture); end = read .end }
+  done = front-done all (read .answer) (read .architecture) (read .end) are-read
+
+  untied : read .answer ≡ Reply.Done → read .architecture .ties ≡ 0
+  untied e = omega (arith, ties-count (read .architecture), ap length (processes-end 4 (architectureAt row) row 5 _ (done e) .1))
+
+-- `return front`
+enum-told : tie.Need-enum-told
+enum-told c = search needs
+
+-- `return front`
 returns-5 : tie.Need-returns-5
 returns-5 c =
-    let o = c .before in
-    let d = fields (o .before .before) in
-    let b = bytes (opening-at d) in
-    let front = opens (d .before) ∙ go _ _ (long d) ∙ go _ _ (sound (o .before)) in
-    (c .read-processes .ensures .0 ∙ ap₂ (λ (a : Architecture) (i : ℕ). readProcesses 4 a b i) (first o .1) (first o .2) ∙ sym front, c .read-processes .ensures .1)
+    let p = c .before .before in
+    let told = c .enum-told .given in
+    let refused = front-refused (all p) (read p .answer) (read p .architecture) (read p .end) (are-read p) (told .0 .0) (told .1) in
+    (are-read p ∙ refused ∙ sym (front p ∙ then-refused (rest p) refused), p .read-processes .ensures .1)
+
+-- `return front`
+enum-told-2 : tie.Need-enum-told-2
+enum-told-2 c = search needs
+
+-- `read_ties(sheet, front)`
+read-ties-requires : tie.Need-read-ties-requires
+read-ties-requires c κs = let p = c .before .before in let e = c .enum-told2 .given .1 in (p .read-processes .ensures .1, (e, untied p e))
+
+-- `read_ties(sheet, front)`
+returns-6 : tie.Need-returns-6
+returns-6 c =
+    let p = c .before .before .before in
+    (c .read-ties .ensures .0 ∙ sym (front p ∙ then-proper (rest p) (done p (c .before .enum-told2 .given .1))), c .read-ties .ensures .1)
 
 pub read-front-spec : {M : Type 1} → statement M
 read-front-spec =
@@ -175,4 +224,8 @@ read-front-spec =
     returns-4
     opened-requires-2
     read-processes-requires
-    returns-5)
+    enum-told
+    returns-5
+    enum-told-2
+    read-ties-requires
+    returns-6)

@@ -14,7 +14,7 @@ write-for-requires c κs = architecture-proper _ (c .before .before .before .bef
 
 -- `judging::annotate_tables(sheet, witness, annotation)`
 annotate-tables-requires : tie.Need-annotate-tables-requires
-annotate-tables-requires c κs = let p = c .before .before .before .before .before .before .before .before .before .pre in (p .0, p .1 .0 .choice)
+annotate-tables-requires c κs = let p = c .before .before .before .before .before .before .before .before .before .pre in (p .0, p .1 .0 .choice .tables)
 
 -- `judging::annotate_tables(sheet, witness, annotation)`
 same-length : tie.Need-same-length

@@ -12,7 +12,7 @@ use Rattle.sheet.proofs.front.opened.Tie as tie
 
 -- AR
 abbrev ar : tie.Start → Architecture
-ar s = record { variables = s .args .variables; environment = s .args .environment; root = s .args .root; processes = [] }
+ar s = record { variables = s .args .variables; environment = s .args .environment; root = s .args .root; processes = []; ties = [] }
 
 -- `let architecture = Architecture::opened(variables, environment, root)`
 opened-requires : tie.Need-opened-requires
@@ -20,7 +20,7 @@ opened-requires c κs = search needs
 
 -- `total: power(environment)`
 power-requires : tie.Need-power-requires
-power-requires c κs = opening-proper (ar (c .before)) refl (c .before .pre) .few-environment
+power-requires c κs = opening-proper (ar (c .before)) refl refl (c .before .pre) .few-environment
 
 -- `FrontRead`
 returns : tie.Need-returns
@@ -29,7 +29,7 @@ returns c =
     let start = c .before .before in
     let architecture = c .before .opened .ensures in (
       ap (λ (a : Architecture). proper record { architecture = a; end = start .args .end }) (architecture .0),
-      λ b inside. known-opened b _ (ar start) refl (start .pre) (architecture .0) (architecture .1 .0) inside refl (c .power .ensures),
+      λ b inside. known-opened b _ (ar start) refl refl (start .pre) (architecture .0) (architecture .1 .0) inside refl (c .power .ensures),
     )
 
 pub opened-spec : {M : Type 1} → statement M

@@ -11,17 +11,16 @@ use Rattle.model.specs.Sheet.{Architecture}
 use Rattle.model.specs.Reading.{Reading, Front, proper, _then_, readProcesses}
 use Rattle.architecture.specs.Struct.{architectureOf}
 use Rattle.sheet.specs.declared.FrontRead.{FrontRead}
-use Rattle.sheet.specs.Struct.{frontOf, frontAs}
 use Rattle.sheet.specs.Steps.{processFrom}
 use Rattle.sheet.proofs.RefusalTests.{fails, passes}
 use Rattle.sheet.proofs.AnswersOfReading.{front-refused, front-done}
 use Rattle.sheet.proofs.OneProcessMore.{count-more}
-use Rattle.sheet.proofs.ReadingOn.{ProcessesRead, then-refused, then-proper, process-read, processes-none, processes-last, processes-turn}
+use Rattle.sheet.proofs.ReadingOn.{RecordsRead, read-ends, then-refused, then-proper, processes-repeat, repeats-none, repeats-turn, process-read}
 use Rattle.sheet.proofs.front.read_processes.Statement.{statement}
 use Rattle.sheet.proofs.front.read_processes.Tie as tie
 
 abbrev Inv-loop : tie.InvT-loop
-Inv-loop sheet read₀ t5 read = ProcessesRead sheet read₀ read
+Inv-loop sheet read₀ t5 read = RecordsRead sheet (λ k a i. readProcesses k a sheet i) 4 (read .architecture .processes) read₀ read
 
 abbrev μ-loop : tie.MeasureT-loop
 μ-loop sheet read₀ t5 read = 4 - read .architecture .processes
@@ -59,17 +58,12 @@ below c = c .before .before .if1 .taken
 abbrev Marked : Type 0
 Marked = tie.Else2 Inv-loop μ-loop
 
--- the struct itself is what was read, where nothing follows
-ends : (f : FrontRead) {b : List ℕ} {first : FrontRead} → ProcessesRead b first f → proper record { architecture = architectureOf (f .architecture); end = f .end } ≡ frontOf f
-unfolding frontAs
-ends f i = sym (ap (λ (x : Reply). frontAs x (f .architecture) (f .end)) (i .done))
-
 -- at a PR, this step and then the rest
 here : (c : Marked) → let l = head (c .before) in (processFrom (architecture l) (bytes l) (at l) then rest l) ≡ all l
 here c =
     let l = head (c .before) in
     let marked = not-false _ (passes (c .before .is-marked .ensures) (c .if2 .left)) in
-    sym (processes-turn (architecture l) (bytes l) (at l) 4 (count l) (below (c .before)) marked) ∙ l .loop .inv .rest
+    sym (repeats-turn (processes-repeat (bytes l)) (architecture l) (at l) 4 (count l) (below (c .before)) marked) ∙ l .loop .inv .rest
 
 -- ---- the needs
 -- `while read.architecture.processes < 4`
@@ -92,8 +86,8 @@ returns : tie.Need-returns Inv-loop μ-loop
 returns c =
     let l = head (c .before) in
     let i = l .loop .inv in
-    let none = processes-none (architecture l) (bytes l) (at l) (4 - count l) (not-true _ (fails (c .before .is-marked .ensures) (c .if2 .taken))) in
-    (sym (ends (l .loop .read) i) ∙ sym none ∙ i .rest, i .known)
+    let none = repeats-none (processes-repeat (bytes l)) (architecture l) (at l) (4 - count l) (not-true _ (fails (c .before .is-marked .ensures) (c .if2 .taken))) in
+    (sym (read-ends i) ∙ sym none ∙ i .rest, i .known)
 
 -- `read = read_process(sheet, read)`
 read-process-requires : tie.Need-read-process-requires Inv-loop μ-loop
@@ -156,8 +150,8 @@ returns-3 c =
     let l = c .before .before in
     let i = l .loop .inv in
     let four : 4 - count l ≡ 0 = omega (arith, c .if1 .left) in
-    let last = ap (λ (k : ℕ). readProcesses k (architecture l) (bytes l) (at l)) four ∙ processes-last (architecture l) (bytes l) (at l) in
-    (sym (ends (l .loop .read) i) ∙ sym last ∙ i .rest, i .known)
+    let last = ap (λ (k : ℕ). readProcesses k (architecture l) (bytes l) (at l)) four ∙ processes-repeat (bytes l) .last (architecture l) (at l) in
+    (sym (read-ends i) ∙ sym last ∙ i .rest, i .known)
 
 pub read-processes-spec : {M : Type 1} → statement M
 read-processes-spec =

@@ -1,4 +1,4 @@
--- `drawing::unpack` meets its contract. The invariant: what is unpacked, and the weight times what the rest unpacks to, is the mask.
+-- `ties::unpack` meets its contract. The invariant: what is unpacked, and the weight times what the rest unpacks to, is the mask.
 use mathlib.Core.Path.{_≡_}
 use Prim.Native.Nat.{_+_, _-_, _*_, _/_, _%_, _^_, _≤_}
 use native.Mathlib.Nat.{mul-le-mul, mul-one, one-mul}
@@ -6,21 +6,21 @@ use native.Mathlib.Omega.{arith}
 use lib.Pow.{pow-mono}
 use borrow.Author.Needs.{needs}
 use Rattle.theory.proofs.Digits.{weight-turn, bits-one}
-use Rattle.drawing.specs.Unpack as inputs
-use Rattle.drawing.specs.Unpack.{unpacked}
-use Rattle.drawing.proofs.Unpacked.{unpacked-turn, unpack-le}
-use Rattle.drawing.proofs.unpack.Statement.{statement}
-use Rattle.drawing.proofs.unpack.Tie as tie
+use Rattle.ties.specs.Unpack as spec
+use Rattle.ties.specs.Unpack.{unpacked}
+use Rattle.ties.proofs.Unpacked.{unpacked-turn, unpack-le}
+use Rattle.ties.proofs.unpack.Statement.{statement}
+use Rattle.ties.proofs.unpack.Tie as tie
 
 abbrev Inv-loop : tie.InvT-loop
-Inv-loop mask index m₀ w₀ v₀ weight₀ i₀ m w v weight i = (i ≤ 8) × (weight ≤ 2 ^ i) × (v + weight * unpacked (8 - i) m w ≡ inputs.unpack mask index)
+Inv-loop mask index m₀ w₀ v₀ weight₀ i₀ m w v weight i = (i ≤ 8) × (weight ≤ 2 ^ i) × (v + weight * unpacked (8 - i) m w ≡ spec.unpack mask index)
 
 abbrev μ-loop : tie.MeasureT-loop
 μ-loop mask index m₀ w₀ v₀ weight₀ i₀ m w v weight i = 8 - i
 
 -- `while i < 8`
 loop-holds : tie.Need-loop-holds Inv-loop μ-loop
-unfolding inputs.unpack
+unfolding spec.unpack
 loop-holds c = (omega arith, omega arith, omega (arith, one-mul (unpacked 8 (c .args .mask) (c .args .index))))
 
 -- `let has = lowest(m)`
@@ -30,7 +30,7 @@ lowest-requires c κs = search needs
 -- the last part of the invariant, after a turn
 turn : (c : tie.After-lowest Inv-loop μ-loop) → let l = c .before .before .loop in
     l .v + l .weight * (c .lowest .result * (l .w % 2)) + l .weight * 2 * unpacked (8 - (l .i + 1)) (l .m / 2) (l .w / (1 + c .lowest .result))
-    ≡ inputs.unpack (c .before .before .before .args .mask) (c .before .before .before .args .index)
+    ≡ spec.unpack (c .before .before .before .args .mask) (c .before .before .before .args .index)
 turn c =
     let l = c .before .before .loop in
     unpacked-turn (l .i) (l .m) (l .w) (l .v) (l .weight) _ _ (c .before .loop-test .taken) (c .lowest .ensures) (l .inv .2)
@@ -78,7 +78,7 @@ loop-again : tie.Need-loop-again Inv-loop μ-loop
 loop-again c = let l = c .before .before .loop in (omega arith, weight-turn (l .weight) (l .i) 1 (omega arith) (l .inv .1), turn c)
 
 -- all is unpacked
-whole : (c : tie.After-loop Inv-loop μ-loop) → c .before .loop .v ≡ inputs.unpack (c .before .before .args .mask) (c .before .before .args .index)
+whole : (c : tie.After-loop Inv-loop μ-loop) → c .before .loop .v ≡ spec.unpack (c .before .before .args .mask) (c .before .before .args .index)
 unfolding unpacked
 whole c =
     let l = c .before .loop in

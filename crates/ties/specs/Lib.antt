@@ -1,0 +1,4 @@
+pub mod Leaders
+pub mod Unpack
+pub mod Groups
+pub mod Tables
