@@ -26,4 +26,4 @@ module _ (s : Sheet) (book : List ℕ) where
   unfolding textOrRefused withBook _then_
   drawn-tables tables h =
       let n = length (entries (s .architecture)) in
-      rw (h .is-read) (sym (book-text-front (chosen (s .architecture) tables) (drop n tables) s (h .is-choice)) ∙ ap (bookText s) (take-append-drop n tables))
+      rw (h .is-read) (sym (book-text-front (chosen (s .architecture) tables) (drop n tables) s (h .are-tables)) ∙ ap (bookText s) (take-append-drop n tables))

@@ -12,7 +12,7 @@ use Rattle.model.specs.declared.Refusal.the-variants.{BookBufferTooShort, Annot
 use Rattle.model.specs.declared.Outcome.{Outcome}
 use Rattle.model.specs.Reading as model
 use Rattle.model.specs.Sheet.{Architecture, Sheet, ProperSheet}
-use Rattle.model.specs.Reading.{refused, proper, refuse_when_else_, _then_, readSheet}
+use Rattle.model.specs.Reading.{refused, proper, readSheet, refuse_when_else_, _then_}
 use Rattle.model.specs.Choice.{entries, IsTables, IsChoice}
 use Rattle.model.specs.RunGraph.{vertices}
 use Rattle.model.specs.Computed.{annotation, firstChoice}

@@ -13,7 +13,7 @@ use Rattle.model.specs.declared.Finding.the-variants.{Yes, No}
 use Rattle.model.specs.declared.Verdict.{Verdict}
 use Rattle.model.specs.Mask.{if}
 use Rattle.model.specs.Sheet.{Sheet, ProperSheet}
-use Rattle.model.specs.Reading.{Reading, refused, proper, refuse_when_else_, _then_, readSheet}
+use Rattle.model.specs.Reading.{Reading, refused, proper, _then_, readSheet, refuse_when_else_}
 use Rattle.model.specs.Choice.{IsTables}
 use Rattle.model.specs.RunGraph.{vertices, blank}
 use Rattle.model.specs.Computed.{valid}

@@ -15,9 +15,9 @@ use Rattle.book.specs.Answers.{afterRead}
 use Rattle.book.proofs.ReadingAnswers.{gave-refused, gave-done}
 use Rattle.graph.proofs.ChoiceAtFront.{chosen-tables}
 
--- the choice of the book is at the front of the tables
+-- what the book holds is at the front of the tables
 pub record Chose (a : Architecture) (book tables : List ℕ) : Type 0 where
-  pub is-choice : IsTables a (chosen a tables)
+  pub are-tables : IsTables a (chosen a tables)
   pub is-read : readBook a book ≡ proper (chosen a tables)
 
 module _ (a : Architecture) (book : List ℕ) (r : TablesRead) (after : afterRead r ≡ gave (readBook a book)) where
@@ -33,4 +33,4 @@ module _ (a : Architecture) (book : List ℕ) (r : TablesRead) (after : afterRea
       let choice : IsTables a (d .0) = read-choice a book (d .0) (d .1) .0 .tables in
       let tables : r .tables ≡ tablesOf (d .0) = ap (λ (x : AfterRead). x .tables) (after ∙ ap gave (d .1)) in
       let same : chosen a (r .tables) ≡ d .0 = ap (chosen a) tables ∙ chosen-tables a (d .0) choice in
-      record { is-choice = subst (IsTables a) (sym same) choice; is-read = d .1 ∙ ap (λ (c : List ℕ). proper c) (sym same) }
+      record { are-tables = subst (IsTables a) (sym same) choice; is-read = d .1 ∙ ap (λ (c : List ℕ). proper c) (sym same) }

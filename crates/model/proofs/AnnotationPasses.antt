@@ -1,7 +1,6 @@
 -- The annotation of a choice that keeps the sheet is valid, also at the front of a longer buffer, and also where the start's entries are not
 -- counted.
 use mathlib.Core.Path.{_≡_, sym, _∙_}
-use mathlib.Core.Bool.{true}
 use mathlib.Core.Logic.{_↔_}
 use mathlib.Core.List.{List}
 use Prim.Native.Nat.{ℕ, _*_, _≤_, _<_}
@@ -16,7 +15,7 @@ use Rattle.model.specs.Sheet.{Sheet, ProperSheet}
 use Rattle.model.specs.Compose.{T}
 use Rattle.model.specs.Choice.{IsTables}
 use Rattle.model.specs.RunGraph.{vertices, start, rejects, startRejections, Reachable, Keeps, blank, Valid}
-use Rattle.model.specs.Computed.{runGraph, annotationFrom, annotation, valid}
+use Rattle.model.specs.Computed.{annotationFrom, annotation, valid}
 use Rattle.model.specs.Calls.{front}
 use Rattle.model.proofs.RunGraphSteps.{start-lt, step-lt, graph-finite}
 use Rattle.model.proofs.ComputedTests.{loop-to, loop-from, valid-to, valid-from, valid-exactly}

@@ -1,20 +1,20 @@
 -- Books of a proper sheet: read and write undo each other, only the entries count, and a part has the records of its process.
 use mathlib.Core.Path.{_≡_, refl, sym, ap, _∙_, subst}
-use mathlib.Core.List.{List, [], _∷_, _++_}
+use mathlib.Core.List.{List, _∷_, _++_}
 use Prim.Native.Nat.{ℕ, _-_, _≤_, _<_}
 use native.Mathlib.Omega.{arith}
-use lib.ListN.{length, take, drop, replicate, length-append, length-take}
+use lib.ListN.{length, take, drop, replicate, length-append}
 use lib.Seq.{take-at}
 use borrow.Author.Tests.{le-ltb, ltb-false}
 use Rattle.model.specs.declared.Refusal.the-variants.{BookBufferTooShort, BadEntry}
 use Rattle.model.specs.declared.Reply.{Reply}
 use Rattle.model.specs.Sheet.{Process, Architecture, Sheet}
-use Rattle.model.specs.Reading.{Reading, refused, proper, refuse_when_else_, _then_, readSheet}
+use Rattle.model.specs.Reading.{Reading, refused, proper, refuse_when_else_, readSheet}
 use Rattle.model.specs.Choice.{entries, IsChoice, rows, chosen}
-use Rattle.model.specs.Book.{form, holes, filled, records, bookLength, bookOf, entryFault, readBook, partStart, partEnd}
+use Rattle.model.specs.Book.{form, filled, records, bookLength, bookOf, entryFault, readBook, partStart, partEnd}
 use Rattle.model.specs.Calls.{front, bookShort, writtenFor, written, AfterWrite, wrote, writeOf, AfterRead, tablesOf, gave, readOf, AfterPart, part, partOf}
 use Rattle.model.specs.Demands.{Books}
-use Rattle.model.proofs.ProperSheet.{passes, same-proper}
+use Rattle.model.proofs.ProperSheet.{passes}
 use Rattle.model.proofs.Refusing.{go, then-read}
 use Rattle.model.proofs.FitsTest.{fits-length}
 use Rattle.model.proofs.BookInverse.{filled-take, filled-length, holes-form}

@@ -4,7 +4,6 @@ use mathlib.Core.Bool.{Bool, true, false, _&&_, not, true≢false}
 use mathlib.Core.Logic.{_⊎_, inl, inr, _↔_}
 use mathlib.Core.List.{List, [], _∷_, append-nil}
 use Prim.Native.Nat.{ℕ}
-use native.Mathlib.Omega.{arith}
 use lib.ListN.{length, take, drop, take-append-drop}
 use borrow.Author.Tests.{not-true, not-false}
 use Rattle.theory.proofs.Bools.{bool-cases, and-is}
@@ -13,7 +12,7 @@ use Rattle.model.specs.declared.Refusal.the-variants.{BadBook, BadEntry}
 use Rattle.model.specs.Sheet.{Architecture}
 use Rattle.model.specs.Reading.{Reading, refused, proper, refuse_when_else_}
 use Rattle.model.specs.Choice.{Entry, entries, may, Fits, done, also, IsChoice, fits, keepsTies, chosen}
-use Rattle.model.specs.Book.{form, holes, filled, bookOf, wellFormed, entriesIn, bookFault, entryFault, readBook}
+use Rattle.model.specs.Book.{form, holes, bookOf, wellFormed, entriesIn, bookFault, entryFault, readBook}
 use Rattle.model.specs.Refusals.{Formed, BookRefused, not-formed, no-choice}
 use Rattle.model.proofs.ProperSheet.{passes, same-proper}
 use Rattle.model.proofs.Refusing.{stop, go, refused-when, refused≢proper}

@@ -5,7 +5,7 @@ use mathlib.Core.Logic.{_↔_}
 use mathlib.Core.List.{List}
 use Prim.Native.Nat.{ℕ, _≤_}
 use native.Mathlib.Omega.{arith}
-use lib.ListN.{length, getD}
+use lib.ListN.{getD}
 use borrow.Author.Tests.{le-ltb, ltb-false}
 use Rattle.model.specs.declared.Refusal.the-variants.{AnnotationBufferTooShort}
 use Rattle.model.specs.declared.Finding.{Finding}
@@ -15,11 +15,11 @@ use Rattle.model.specs.Mask.{if}
 use Rattle.model.specs.Sheet.{Sheet, ProperSheet}
 use Rattle.model.specs.Reading.{Reading, refused, proper, readSheet}
 use Rattle.model.specs.Choice.{IsTables}
-use Rattle.model.specs.RunGraph.{vertices, startRejections, RejectingLoop, Keeps, blank, Valid}
+use Rattle.model.specs.RunGraph.{startRejections, RejectingLoop, Keeps, blank, Valid}
 use Rattle.model.specs.Computed.{loops, annotationFrom, annotation, valid}
-use Rattle.model.specs.Book.{bookOf, readBook}
+use Rattle.model.specs.Book.{readBook}
 use Rattle.model.specs.Calls.{front, annotationShort, Chosen, roomFor, bookFor, bookAndRoom, judged, judgeOf, AfterAnnotate, annotatedBy, annotated, annotateOf}
-use Rattle.model.specs.Demands.{Annotates, Older, Weighed, demand-2}
+use Rattle.model.specs.Demands.{Older, Weighed, demand-2}
 use Rattle.model.proofs.ProperSheet.{passes, goes-on, same-proper, sheet-proper}
 use Rattle.model.proofs.Refusing.{go, then-read}
 use Rattle.model.proofs.BookRead.{choice-read, read-choice}

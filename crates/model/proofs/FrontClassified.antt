@@ -1,7 +1,7 @@
 -- What reading the front answers is what the row of bytes is: up to position i it is the writing of the proper records read so far,
 -- and each test of the reader tells what the record at i makes of it.
 use mathlib.Core.Path.{_≡_, refl, ap, _∙_}
-use mathlib.Core.Bool.{true, false, _&&_, not}
+use mathlib.Core.Bool.{true, false, not}
 use mathlib.Core.List.{List, [], _∷_, _++_}
 use Prim.Native.Nat.{ℕ, zero, suc, _+_, _≤_, _<_}
 use native.Mathlib.Omega.{arith}

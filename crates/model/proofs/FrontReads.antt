@@ -13,8 +13,8 @@ use Rattle.theory.specs.Lists.{Pairwise, empty, before}
 use Rattle.model.specs.declared.Refusal.the-variants.{SheetTooShort, WrongMark, BadArchitecture, BadProcess, BadTie}
 use Rattle.model.specs.Mask.{if}
 use Rattle.model.specs.Sheet.{Process, Tie, Architecture, withProcess, withTie, ProperFront}
-use Rattle.model.specs.Reading.{Reading, refused, proper, short, marked, tieMarked, PR, AR, SY, arFault, prFault, tieFault, architectureAt, Front}
-use Rattle.model.specs.Reading.{readProcess, readProcesses, readTie, readTies, readFront, refuse_when_else_, _then_}
+use Rattle.model.specs.Reading.{Reading, refused, proper, short, marked, tieMarked, PR, AR, SY, arFault, prFault, tieFault, architectureAt, Front, refuse_when_else_}
+use Rattle.model.specs.Reading.{readProcess, readProcesses, readTie, readTies, readFront, _then_}
 use Rattle.model.specs.SheetFile.{processBytes, processesBytes, tieBytes, tiesBytes, frontBytes}
 use Rattle.model.proofs.Refusing.{go}
 use Rattle.model.proofs.FaultsExact.{opening-faultless, process-faultless, tie-faultless}
@@ -145,11 +145,12 @@ processes-front : (a : Architecture) (x b : List ℕ) (k : ℕ) → b ≡ frontB
     → readFront b ≡ thenTies b (readProcesses k (untie a) b (length (frontBytes (untie a))))
 unfolding frontBytes tiesBytes opening withProcesses untie
 processes-front a x b k e g room =
-    let whole : b ≡ (0x41 ∷ 0x52 ∷ a .variables ∷ a .environment ∷ a .root ∷ []) ++ (processesBytes (a .processes) ++ x) = e ∙ rw (append-nil (processesBytes (a .processes))) in
+    let ar : List ℕ = 0x41 ∷ 0x52 ∷ a .variables ∷ a .environment ∷ a .root ∷ [] in
+    let whole : b ≡ ar ++ (processesBytes (a .processes) ++ x) = e ∙ rw (append-nil (processesBytes (a .processes))) in
     opening-next (untie a) x b e
     ∙ go BadArchitecture _ (opening-faultless (untie a) (untied-proper a g))
     ∙ ap (λ (n : ℕ). thenTies b (readProcesses n (opening a) b 5)) (sym room)
-    ∙ ap (thenTies b) (processes-through b (a .processes) k (opening a) 5 x (behind (0x41 ∷ 0x52 ∷ a .variables ∷ a .environment ∷ a .root ∷ []) (processesBytes (a .processes) ++ x) whole) refl (untied-proper a g))
+    ∙ ap (thenTies b) (processes-through b (a .processes) k (opening a) 5 x (behind ar (processesBytes (a .processes) ++ x) whole) refl (untied-proper a g))
     ∙ ap (λ (n : ℕ). thenTies b (readProcesses k (untie a) b n)) (omega (arith, length-append (processesBytes (a .processes)) []))
 
 pub front-through : (a : Architecture) (x b : List ℕ) (k : ℕ) → b ≡ frontBytes a ++ x → ProperFront a → a .ties ≡ [] → length (a .processes) + k ≡ 4

@@ -2,7 +2,7 @@
 use mathlib.Core.Path.{_≡_, refl, sym, ap, _∙_}
 use mathlib.Core.Bool.{Bool, _&&_, _||_, not}
 use mathlib.Core.Logic.{⊎-elim}
-use mathlib.Core.List.{List, [], _∷_, _++_}
+use mathlib.Core.List.{List, [], _∷_}
 use Prim.Native.Nat.{ℕ, zero, suc, _+_, _*_, _≤_, _<_}
 use native.Mathlib.Omega.{arith}
 use lib.Dec.{eqb, ltb}
@@ -14,9 +14,9 @@ use Rattle.model.specs.declared.Refusal.{Refusal}
 use Rattle.model.specs.declared.Refusal.the-variants.{SheetTooShort, WrongMark, BadArchitecture, BadProcess, NoOwnerOrTooMany, BadAutomaton, BadEdge, BadTie}
 use Rattle.model.specs.Mask.{if}
 use Rattle.model.specs.Sheet.{Process, Tie, Architecture, Sheet, withProcess, withTie}
-use Rattle.model.specs.Reading.{Reading, refused, proper, byte, short, marked, tieMarked, edgeMarked, EN, EX, ED, AU, SY, PR}
+use Rattle.model.specs.Reading.{Reading, refused, proper, byte, short, marked, tieMarked, edgeMarked, EN, EX, ED, AU, SY, PR, refuse_when_else_}
 use Rattle.model.specs.Reading.{AR, arFault, prFault, tieFault, allFault, auFault, edFault, architectureAt, processAt, tieAt, edgeAt, Front}
-use Rattle.model.specs.Reading.{readEnd, readEdge, readEdges, readAutomaton, readProcess, readProcesses, readTie, readTies, readFront, readSheet, refuse_when_else_, _then_}
+use Rattle.model.specs.Reading.{readEnd, readEdge, readEdges, readAutomaton, readProcess, readProcesses, readTie, readTies, readFront, readSheet, _then_}
 use Rattle.model.specs.SheetFile.{longestSheet}
 use Rattle.model.specs.Calls.{reply, checkOf, findSheet, findOf}
 use Rattle.model.proofs.ProperSheet.{front-read, processes-end}

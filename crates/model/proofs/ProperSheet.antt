@@ -1,5 +1,5 @@
 -- A front that is read is a proper one, and so is a sheet; neither is long.
-use mathlib.Core.Path.{_≡_, refl, sym, ap, _∙_, subst}
+use mathlib.Core.Path.{_≡_, refl, sym, ap, subst}
 use mathlib.Core.Bool.{Bool, true, false, _||_, not, true≢false}
 use mathlib.Core.Logic.{_⊎_, inl, inr, ⊎-elim}
 use mathlib.Core.List.{List, [], _∷_, _++_, List·Memᴰ, List·Memᴰ·not-nil, List·Memᴰ·cases-cons, List·Memᴰ·eq-of-singleton, List·Memᴰ·append-cases}
@@ -13,12 +13,12 @@ use Rattle.model.specs.declared.Refusal.the-variants.{SheetTooShort, Wro
 use lib.Bits.{and-comm}
 use Rattle.theory.specs.Lists.{empty, before, all, from}
 use Rattle.theory.proofs.ListLaws.{all-is, from-has, pairwise-append}
-use Rattle.model.specs.Mask.{if, share, beyond, count}
-use Rattle.model.specs.Sheet.{Process, Tie, Architecture, Edge, Automaton, Sheet, withProcess, withTie, nobody, processNo, owned, composedStates, Apart}
-use Rattle.model.specs.Sheet.{ProperProcess, ProperProcesses, OutputsApart, SameShape, ProperTie, ProperFront, ProperArchitecture, ProperEdge, ProperEdges, ProperAutomaton, ProperSheet}
-use Rattle.model.specs.Reading.{Reading, refused, proper, byte, short, marked, tieMarked, edgeMarked, EN, AU, PR, AR}
+use Rattle.model.specs.Mask.{if, share, beyond}
+use Rattle.model.specs.Sheet.{Process, Tie, Architecture, Edge, Automaton, Sheet, withProcess, withTie, nobody, processNo, owned, Apart}
+use Rattle.model.specs.Sheet.{ProperProcess, SameShape, ProperTie, ProperFront, ProperArchitecture, ProperEdge, ProperEdges, ProperAutomaton, ProperSheet}
+use Rattle.model.specs.Reading.{Reading, refused, proper, byte, short, marked, tieMarked, edgeMarked, EN, AU, PR, AR, refuse_when_else_, _then_}
 use Rattle.model.specs.Reading.{arFault, taken, fieldFault, prFault, unlike, tieFault, allFault, auFault, edFault, architectureAt, processAt, tieAt, edgeAt, Front}
-use Rattle.model.specs.Reading.{readEnd, readEdge, readEdges, readAutomaton, readProcess, readProcesses, readTie, readTies, readFront, readSheet, refuse_when_else_, _then_}
+use Rattle.model.specs.Reading.{readEnd, readEdge, readEdges, readAutomaton, readProcess, readProcesses, readTie, readTies, readFront, readSheet}
 use Rattle.model.specs.SheetFile.{longestSheet}
 
 -- ---- the first fault in order

@@ -9,8 +9,8 @@ use lib.Dec.{eqb}
 use lib.ListN.{length, length-append}
 use lib.Seq.{getD-append-add}
 use borrow.Author.Tests.{lt-ltb, le-ltb}
-use Rattle.model.specs.Sheet.{Process, Tie, Architecture, Edge}
-use Rattle.model.specs.Reading.{byte, short, marked, tieMarked, edgeMarked, SY, ED, EX, processAt, tieAt, edgeAt}
+use Rattle.model.specs.Sheet.{Process, Tie, Edge}
+use Rattle.model.specs.Reading.{byte, short, marked, edgeMarked, ED, EX, processAt, tieAt, edgeAt}
 use Rattle.model.specs.SheetFile.{processBytes, tieBytes, edgeMark, edgeBytes}
 
 -- b has x from place i on

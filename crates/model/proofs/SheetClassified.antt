@@ -2,7 +2,7 @@
 use mathlib.Core.Path.{_≡_, refl, sym, ap, _∙_, subst}
 use mathlib.Core.Bool.{Bool, true, false, _||_, _&&_, not, and-true}
 use mathlib.Core.Logic.{⊎-elim}
-use mathlib.Core.List.{List, [], _++_, List·Memᴰ·not-nil}
+use mathlib.Core.List.{List, [], _++_}
 use Prim.Native.Nat.{ℕ, _+_, _*_, _≤_, _<_}
 use native.Mathlib.Omega.{arith}
 use lib.Dec.{eqb}
@@ -11,8 +11,9 @@ use borrow.Author.Tests.{eqb-true, eqb-false, not-true, not-false, ne-eqb}
 use Rattle.theory.proofs.Bools.{or-is}
 use Rattle.model.specs.declared.Refusal.{Refusal}
 use Rattle.model.specs.declared.Refusal.the-variants.{SheetTooShort, WrongMark, NoOwnerOrTooMany, BadAutomaton}
-use Rattle.model.specs.Sheet.{Architecture, Automaton, Sheet, ProperFront, ProperArchitecture, ProperAutomaton, ProperSheet}
-use Rattle.model.specs.Reading.{Reading, refused, proper, byte, short, marked, tieMarked, AU, PR, SY, allFault, auFault, readEdges, readAutomaton, readFront, readSheet, refuse_when_else_, _then_}
+use Rattle.model.specs.Sheet.{Architecture, Automaton, Sheet, ProperFront, ProperArchitecture, ProperSheet}
+use Rattle.model.specs.Reading.{Reading, refused, proper, byte, short, marked, tieMarked, AU, PR, SY}
+use Rattle.model.specs.Reading.{allFault, auFault, readEdges, readAutomaton, readFront, readSheet, refuse_when_else_, _then_}
 use Rattle.model.specs.SheetFile.{statesBytes, frontBytes, sheetBytes, Bytes, FollowsFront, Unfinished, BeginsFaulty}
 use Rattle.model.specs.SheetFile.{in-mark-behind-front, in-states, wrong-mark-behind-front, no-owner-or-too-many, bad-automaton}
 use Rattle.model.proofs.ProperSheet.{or-false, no-edge-proper, front-whole}

@@ -1,9 +1,8 @@
 -- A sheet is refused by its own numbers only: each test on the way names one of these.
-use mathlib.Core.Path.{_≡_, refl, sym, subst}
+use mathlib.Core.Path.{_≡_, refl, subst}
 use mathlib.Core.Bool.{Bool, true, false, _||_, not}
-use mathlib.Core.List.{List, [], _∷_, _++_, List·Memᴰ}
-use mathlib.Core.Option.{Option, none, some}
-use Prim.Native.Nat.{ℕ, zero, suc, _+_, _*_, _≤_}
+use mathlib.Core.List.{List, [], _∷_, List·Memᴰ}
+use Prim.Native.Nat.{ℕ, zero, suc, _+_, _*_}
 use native.Mathlib.Omega.{arith}
 use lib.Dec.{eqb, ltb}
 use lib.ListN.{length}
@@ -11,20 +10,12 @@ use Rattle.theory.specs.Lists.{member}
 use Rattle.theory.proofs.ListLaws.{member-sound}
 use Rattle.model.specs.declared.Refusal.{Refusal}
 use Rattle.model.specs.declared.Refusal.the-variants.{SheetTooShort, WrongMark, BadArchitecture, BadProcess, NoOwnerOrTooMany, BadAutomaton, BadEdge, BadTie}
-use Rattle.model.specs.declared.Finding.the-variants.{Yes, No}
-use Rattle.model.specs.declared.Verdict.{Verdict}
-use Rattle.model.specs.declared.Reply.{Reply}
-use Rattle.model.specs.declared.Outcome.{Outcome}
 use Rattle.model.specs.Numbers.{number, sheetNumbers}
 use Rattle.model.specs.Mask.{if}
-use Rattle.model.specs.Sheet.{Architecture, Sheet, withProcess, withTie}
-use Rattle.model.specs.Reading.{Reading, refused, proper, byte, short, marked, tieMarked, edgeMarked, EN, AU, PR}
+use Rattle.model.specs.Sheet.{Architecture, withProcess, withTie}
+use Rattle.model.specs.Reading.{Reading, refused, proper, byte, short, marked, tieMarked, edgeMarked, EN, AU, PR, refuse_when_else_, _then_}
 use Rattle.model.specs.Reading.{AR, arFault, prFault, tieFault, allFault, auFault, edFault, architectureAt, processAt, tieAt, edgeAt, readEnd}
-use Rattle.model.specs.Reading.{readEdge, readEdges, readAutomaton, readProcess, readProcesses, readTie, readTies, readFront, readSheet, refuse_when_else_, _then_}
-use Rattle.model.specs.Computed.{loops, firstChoice}
-use Rattle.model.specs.Calls.{Chosen, reply, checkOf, findSheet, findChoice, findIn, findOf, bookAndRoom, annotatedBy}
-use Rattle.model.specs.Calls.{annotated, annotateOf, written, wrote, writeOf, partArchitecture, cut, partOf, part}
-use Rattle.model.specs.Demands.{demand-1}
+use Rattle.model.specs.Reading.{readEdge, readEdges, readAutomaton, readProcess, readProcesses, readTie, readTies, readFront, readSheet}
 
 -- ---- the sheet's own numbers
 -- it is one of them

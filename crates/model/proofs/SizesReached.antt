@@ -1,7 +1,5 @@
 -- The sizes that 01 prints are reached, by computation: a proper sheet of 429 bytes whose book has 338, and a choice of it with 272 entries.
 use mathlib.Core.Path.{_≡_, refl}
-use mathlib.Core.Bool.{true}
-use Prim.Native.Nat.{ℕ}
 use lib.ListN.{length}
 use Rattle.model.specs.Reading.{proper, readSheet}
 use Rattle.model.specs.Choice.{entries, IsChoice, fits, keepsTies}

@@ -7,11 +7,11 @@ use Rattle.model.specs.declared.Refusal.the-variants.{BookBufferTooShort
 use Rattle.model.specs.declared.Outcome.{Outcome}
 use Rattle.model.specs.Sheet.{Architecture, Sheet}
 use Rattle.model.specs.Reading.{Reading, refused, proper, readSheet}
-use Rattle.model.specs.Choice.{tableOf, KeepsTies}
-use Rattle.model.specs.Book.{bookOf, readBook}
+use Rattle.model.specs.Choice.{KeepsTies}
+use Rattle.model.specs.Book.{bookOf}
 use Rattle.model.specs.Calls.{bookShort, annotationShort, findSheet, roomToFind, findIn, findOf}
 use Rattle.model.specs.Refusals.{JudgeRefused, WriteRefused, ReadRefused, PartRefused, BookRefused, no-choice}
-use Rattle.model.specs.Demands.{Chain, tied, itself, back, link, OneTable, Breaks, bookFound, tied-tables}
+use Rattle.model.specs.Demands.{tied, itself, back, link, OneTable, Breaks, bookFound, tied-tables}
 use Rattle.model.proofs.ProperSheet.{goes-on, passes, same-proper}
 use Rattle.model.proofs.FitsTest.{fits-length}
 use Rattle.model.proofs.BookRead.{choice-read, read-choice}

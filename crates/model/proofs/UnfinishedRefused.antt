@@ -11,7 +11,8 @@ use borrow.Author.Tests.{ne-eqb}
 use Rattle.model.specs.declared.Refusal.the-variants.{SheetTooShort, WrongMark}
 use Rattle.model.specs.Sheet.{Architecture, Sheet, ProperFront, ProperSheet}
 use Rattle.model.specs.Reading.{refused, marked, tieMarked, AR, PR, SY, AU, readEnd, readAutomaton, readFront, readSheet}
-use Rattle.model.specs.SheetFile.{edgeMark, frontBytes, recordsBytes, Unfinished, in-first-mark, in-architecture, in-mark-behind-front, in-process, in-tie, in-states, in-mark-behind-edges, in-edge}
+use Rattle.model.specs.SheetFile.{edgeMark, frontBytes, recordsBytes}
+use Rattle.model.specs.SheetFile.{Unfinished, in-first-mark, in-architecture, in-mark-behind-front, in-process, in-tie, in-states, in-mark-behind-edges, in-edge}
 use Rattle.model.proofs.Refusing.{stop, go, then-refused}
 use Rattle.model.proofs.RecordAt.{At, behind, too-short, long-enough, no-mark, no-edge-mark, marked-at, mark-long, edge-marked-at}
 use Rattle.model.proofs.FrontReads.{process-short, thenTies, front-through, tie-short, ties-front, front-done}

@@ -2,16 +2,15 @@
 -- A follower has no choice of its own: its leader's value, which stands before it, decides.
 use mathlib.Core.Path.{_≡_, refl, sym, ap, _∙_}
 use mathlib.Core.Bool.{true}
-use mathlib.Core.List.{List, [], _∷_}
+use mathlib.Core.List.{List}
 use mathlib.Core.Option.{none, some}
-use Prim.Native.Nat.{ℕ, suc, _+_, _<_, _≤_}
-use native.Mathlib.Nat.{le-refl}
+use Prim.Native.Nat.{ℕ, _+_, _<_, _≤_}
 use native.Mathlib.Decide.{ℕ-discrete, decLt}
 use native.Mathlib.Omega.{arith}
-use lib.ListN.{length, getD, set, take, replicate, length-set, length-replicate, getD-replicate}
-use lib.Seq.{getD-take, getD-set-same, getD-set-other, ext-getD, length-take-le}
+use lib.ListN.{length, getD, replicate, length-set, length-replicate, getD-replicate}
+use lib.Seq.{getD-set-same, getD-set-other, length-take-le}
 use Rattle.model.specs.Sheet.{Architecture, Sheet, ProperArchitecture, ProperSheet}
-use Rattle.model.specs.Choice.{Entry, next, entries, may, packedValue, entryAt, packedAt, Fits, done, also, IsTables, IsChoice, chosen}
+use Rattle.model.specs.Choice.{next, entries, may, entryAt, packedAt, IsTables, IsChoice, chosen}
 use Rattle.model.specs.Computed.{loops, keeps, firstChoice}
 use Rattle.model.proofs.FitsTest.{fits-length}
 use Rattle.model.proofs.EntryLaws.{fits-at, before-at, zeros-fit}
@@ -180,7 +179,8 @@ pub record Settling (s : Sheet) (fixed groups : List ℕ) (i : ℕ) (tables : Li
   pub witness : Witness s tables
 
 -- a follower has it already
-pub least-follower : (s : Sheet) (i : ℕ) (tables : List ℕ) → ProperSheet s → i < length (entries (s .architecture)) → ¬ (getD (entryLeaders (s .architecture)) i 0 ≡ i) → Witness s tables → Least s i tables tables
+pub least-follower : (s : Sheet) (i : ℕ) (tables : List ℕ) → ProperSheet s → i < length (entries (s .architecture)) → ¬ (getD (entryLeaders (s .architecture)) i 0 ≡ i)
+    → Witness s tables → Least s i tables tables
 least-follower s i tables good h ne W =
     let a = s .architecture in
     record {

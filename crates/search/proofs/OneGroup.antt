@@ -6,16 +6,16 @@ use Prim.Native.Nat.{ℕ, zero, suc, _+_, _<_, _≤_}
 use native.Mathlib.Decide.{ℕ-discrete}
 use native.Mathlib.Omega.{arith}
 use lib.ListN.{length, getD, take, drop, List·getD-map}
-use lib.Seq.{getD-take, getD-drop, length-take-le}
+use lib.Seq.{getD-take, getD-drop}
 use borrow.Author.Count.{below-more}
 use Rattle.theory.proofs.ListLaws.{any-default}
 use Rattle.model.specs.Sheet.{Architecture, Sheet, ProperArchitecture, ProperSheet}
-use Rattle.model.specs.Choice.{Entry, next, entries, may, packedValue, entryAt, IsTables, IsChoice, chosen}
+use Rattle.model.specs.Choice.{Entry, next, entries, may, IsTables, IsChoice, chosen}
 use Rattle.model.proofs.EntryLaws.{fits-at}
 use Rattle.model.proofs.FirstInOrder.{entries-small}
 use Rattle.choice.specs.Kinds.{kindOf}
 use Rattle.ties.specs.Leaders.{entryLeaders}
-use Rattle.ties.specs.Unpack.{unpackedValue, groupValue}
+use Rattle.ties.specs.Unpack.{groupValue}
 use Rattle.ties.specs.Groups.{setGroup}
 use Rattle.ties.proofs.Entries.{entry-leaders-long, leader-low, leader-own}
 use Rattle.ties.proofs.SetGroup.{settled-long, settled-there, settled-elsewhere, settled-twice, settled-same, settled-take}
@@ -93,6 +93,11 @@ ButGroup a l xs ys = (f : ℕ → ℕ) → setGroup f (entryLeaders a) l xs ≡ 
 
 pub but-settled : (a : Architecture) (l : ℕ) (g : ℕ → ℕ) (xs ys : List ℕ) → xs ≡ setGroup g (entryLeaders a) l ys → ButGroup a l xs ys
 but-settled a l g xs ys e f = ap (setGroup f (entryLeaders a) l) e ∙ settled-twice f (entryLeaders a) l g ys
+
+pub but-long : (a : Architecture) (l : ℕ) (xs ys : List ℕ) → ButGroup a l xs ys → length xs ≡ length ys
+but-long a l xs ys same =
+    let ls = entryLeaders a in
+    sym (settled-long (λ i. 0) ls l xs) ∙ ap length (same (λ i. 0)) ∙ settled-long (λ i. 0) ls l ys
 
 -- ---- a group that is open
 pub record Opened (a : Architecture) (values unset fixed groups : List ℕ) (l : ℕ) : Type 0 where

@@ -15,7 +15,7 @@ use Rattle.model.proofs.ProperSheet.{passes, same-proper}
 use Rattle.architecture.specs.Struct.{architectureOf}
 use Rattle.sheet.specs.declared.FrontRead.{FrontRead}
 use Rattle.sheet.specs.declared.Sheet.{Sheet}
-use Rattle.sheet.specs.Struct.{sheetOf, readingAs, outputsOf, frontOf, frontAs, FrontKnown, automatonAs}
+use Rattle.sheet.specs.Struct.{readingAs, outputsOf, frontOf, frontAs, FrontKnown, automatonAs}
 use Rattle.sheet.specs.Steps.{processFrom, tieFrom}
 use Rattle.sheet.proofs.OwnedOutputs.{taken-is}
 

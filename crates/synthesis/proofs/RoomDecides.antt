@@ -12,7 +12,7 @@ use Rattle.model.specs.Sheet.{Sheet}
 use Rattle.model.specs.Reading.{Reading, refused, proper}
 use Rattle.model.specs.Choice.{entries, IsChoice, chosen}
 use Rattle.model.specs.Computed.{loops, annotation}
-use Rattle.model.specs.Book.{form, bookLength, bookOf}
+use Rattle.model.specs.Book.{form, bookOf}
 use Rattle.model.specs.Calls.{front, reply, bookShort, annotationShort, roomToFind, roomFor, annotatedBy, annotated, writtenFor}
 use Rattle.model.proofs.ProperSheet.{passes}
 use Rattle.model.proofs.FitsTest.{fits-length}

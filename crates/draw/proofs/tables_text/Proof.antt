@@ -43,7 +43,7 @@ book-text-requires c κs =
     let r = t .before .before in
     let b = r .before .before .before .before in
     let long = length-take (length (entries (architectureOf (b .args .sheet .architecture)))) (r .read-for .result .tables) in
-    (b .pre .0, (b .pre .1, omega (arith, fits-length (read t .is-choice), long)))
+    (b .pre .0, (b .pre .1, omega (arith, fits-length (read t .are-tables), long)))
 
 -- `match answer`
 same-length : tie.Need-same-length

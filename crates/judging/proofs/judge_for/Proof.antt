@@ -40,7 +40,7 @@ judge-tables-requires : tie.Need-judge-tables-requires
 judge-tables-requires c κs =
     let t = c .before .before in
     let r = t .before .before in
-    (entry r .pre, choice r (t .enum-told .given .1) .is-choice)
+    (entry r .pre, choice r (t .enum-told .given .1) .are-tables)
 
 -- `match answer`
 returns : tie.Need-returns

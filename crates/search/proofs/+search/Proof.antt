@@ -17,7 +17,6 @@ use Rattle.choice.specs.Kinds.{kindOf}
 use Rattle.ties.specs.Leaders.{entryLeaders}
 use Rattle.ties.specs.Unpack.{groupValue}
 use Rattle.ties.specs.Groups.{setGroup}
-use Rattle.ties.proofs.SetGroup.{settled-long}
 use Rattle.exploration.specs.Prepared.{kindAt, Prepared}
 use Rattle.exploration.specs.PartialChoice.{Agrees}
 use Rattle.exploration.specs.Answers.{ExploredSays, Work}
@@ -25,7 +24,8 @@ use Rattle.search.specs.Choices.{Chains, Grouped, groupAt, Ready, opens}
 use Rattle.search.specs.Answers.{NoChoice, Finds}
 use Rattle.exploration.specs.declared.Explored.{Explored}
 use Rattle.search.specs.declared.Searched.{Searched}
-use Rattle.search.proofs.OneGroup.{Trying, trying-none, trying-more, chosen-at, ButGroup, but-settled, Opened, opened-of, few, words-are, marks-are, leads-word, Put, Shut, opens-fewer, values-back, unset-back}
+use Rattle.search.proofs.OneGroup.{Trying, trying-none, trying-more, chosen-at, ButGroup, but-settled, but-long}
+use Rattle.search.proofs.OneGroup.{Opened, opened-of, few, words-are, marks-are, leads-word, opens-fewer, values-back, unset-back}
 use Rattle.search.proofs.OneGroup.{set-ready, found-wider, all-tried}
 use Rattle.search.proofs.search.Reads as search′
 use Rattle.search.proofs.search.Kinds as search-kinds
@@ -184,7 +184,7 @@ module _ (t : ℕ) where
   search-explore-requires : Of search-lts.Need-explore-requires
   search-explore-requires c κs =
       let b = c .before .before .before .before .before .before .before .before .before .before .before in
-      (made b, (record { choice = ready b .choice .tables; long = omega (arith, ready b .unset-long, made b .kinds-are .few) }, b .pre .1 .1 .1 .1 .1))
+      (made b, (record { tables = ready b .choice .tables; long = omega (arith, ready b .unset-long, made b .kinds-are .few) }, b .pre .1 .1 .1 .1 .1))
 
   search-enum-told : Of search-lts.Need-enum-told
   search-enum-told c = search needs
@@ -229,24 +229,24 @@ module _ (t : ℕ) where
   search-cast-settle-group : Of search-lts.Need-cast-settle-group
   search-cast-settle-group c = omega arith
 
-  -- the arrays keep their lengths
-  values-long : (m : Looping) → length (m .loop .values) ≡ 272
-  values-long m =
+  -- what settling the group asks for: the arrays keep their lengths
+  lengths : (m : Looping) → let b = started (needing m) in
+      (length (m .loop .values) ≡ 272) × (length (m .loop .unset) ≡ 272) × (length (b .args .fixed .now) ≡ 6416)
+  lengths m =
       let b = started (needing m) in
-      let ls = entryLeaders (a m) in
-      sym (settled-long (λ i. 0) ls (l (needing m)) (m .loop .values)) ∙ ap length (m .loop .inv .1 (λ i. 0)) ∙ settled-long (λ i. 0) ls (l (needing m)) (b .args .values .now) ∙ ready b .values-long
+      let g = l (needing m) in
+      (but-long (a m) g _ _ (m .loop .inv .1) ∙ ready b .values-long, but-long (a m) g _ _ (m .loop .inv .2) ∙ ready b .unset-long, made b .long)
 
-  unset-long : (m : Looping) → length (m .loop .unset) ≡ 272
-  unset-long m =
-      let b = started (needing m) in
-      let ls = entryLeaders (a m) in
-      sym (settled-long (λ i. 0) ls (l (needing m)) (m .loop .unset)) ∙ ap length (m .loop .inv .2 (λ i. 0)) ∙ settled-long (λ i. 0) ls (l (needing m)) (b .args .unset .now) ∙ ready b .unset-long
+  chained : (b : Started) → Chains (b .args .n) (b .args .groups .now)
+  chained b = subst⁻¹ (λ (n : ℕ). Chains n (b .args .groups .now)) (count b) (grouped b .chains)
+
+  leading : (n : Need) → let b = started n in (l n < b .args .n) × (getD (b .args .groups .now) (l n) 0 ≡ l n)
+  leading n = (omega (arith, count (started n), opened n .inside), leads-word (opened n))
 
   search-settle-group-requires : Of search-lts.Need-settle-group-requires
   search-settle-group-requires c κs =
       let m = c .before .before .before in
-      let b = started (needing m) in
-      ((values-long m, unset-long m, made b .long), (subst⁻¹ (λ (n : ℕ). Chains n (b .args .groups .now)) (count b) (grouped b .chains), (omega (arith, count b, opened (needing m) .inside), leads-word (opened (needing m)))))
+      (lengths m, (chained (started (needing m)), leading (needing m)))
 
   search-sub-search : Of search-lts.Need-sub-search
   search-sub-search c = omega arith
@@ -299,13 +299,13 @@ module _ (t : ℕ) where
   search-settle-group-requires-2 : Of search-lts.Need-settle-group-requires-2
   search-settle-group-requires-2 c κs =
       let m = c .before .before .before in
-      let b = started (needing m) in
-      ((values-long m, unset-long m, made b .long), (subst⁻¹ (λ (n : ℕ). Chains n (b .args .groups .now)) (count b) (grouped b .chains), (omega (arith, count b, opened (needing m) .inside), leads-word (opened (needing m)))))
+      (lengths m, (chained (started (needing m)), leading (needing m)))
 
   search-returns-3 : Of search-lts.Need-returns-3
   search-returns-3 c =
       let e = c .before .before in
-      (record { none-keeps = λ d choice agrees. said e _ (c .enum-told .given .1) d record { is-choice = choice .tables; agrees = agrees }; same-values = refl; same-unset = refl }, e .explore .ensures .1)
+      let refuted = said e _ (c .enum-told .given .1) in
+      (record { none-keeps = λ d choice agrees. refuted d record { tables = choice .tables; agrees = agrees }; same-values = refl; same-unset = refl }, e .explore .ensures .1)
 
   search-returns-4 : Of search-lts.Need-returns-4
   search-returns-4 c =
@@ -315,7 +315,7 @@ module _ (t : ℕ) where
       let done : Agrees (length (entries (s b .architecture))) (b .args .values .now) (b .args .unset .now) (chosen (s b .architecture) (b .args .values .now)) =
       λ i h o. chosen-at (s b .architecture) (b .args .values .now) i h in (
         record {
-          witness = record { long = r .values-long; choice = r .choice; keeps = said e _ (c .enum-told2 .given .1) _ record { is-choice = r .choice .tables; agrees = done } };
+          witness = record { long = r .values-long; choice = r .choice; keeps = said e _ (c .enum-told2 .given .1) _ record { tables = r .choice .tables; agrees = done } };
           agrees = done;
         },
         e .explore .ensures .1,

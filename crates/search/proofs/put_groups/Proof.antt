@@ -1,22 +1,21 @@
 -- `search::put_groups` meets its contract: leaders and followers are each filled by their own function, and then they stand one behind the other.
 use mathlib.Core.Path.{_≡_, refl, sym, ap, subst, _∙_}
 use mathlib.Core.List.{List, _++_}
-use Prim.Native.Nat.{ℕ, _+_, _≤_, _<_}
+use Prim.Native.Nat.{ℕ, _+_, _≤_}
 use native.Mathlib.Omega.{arith}
 use lib.ListN.{length, getD, take}
 use lib.Seq.{getD-take, getD-append-add, take-all, take-append-le}
 use borrow.Author.Needs.{needs}
 use Rattle.model.specs.Choice.{entries}
-use Rattle.append.specs.Appends.{Appends}
 use Rattle.append.proofs.Appended.{append-more}
 use Rattle.architecture.specs.declared.Architecture.{Architecture}
 use Rattle.architecture.specs.Struct.{IsProper, architectureOf}
 use Rattle.architecture.proofs.ProcessesOfArrays.{entries-are, start-few}
 use Rattle.ties.specs.Leaders.{entryLeaders}
-use Rattle.ties.specs.Groups.{NextInGroup, FollowersAre}
+use Rattle.ties.specs.Groups.{FollowersAre}
 use Rattle.ties.proofs.Entries.{leader-low}
 use Rattle.ties.proofs.LeadersOfArrays.{leaders-inside}
-use Rattle.search.specs.Choices.{Chains, Grouped}
+use Rattle.search.specs.Choices.{Grouped}
 use Rattle.search.proofs.put_groups.Statement.{statement}
 use Rattle.search.proofs.put_groups.Tie as tie
 
@@ -38,7 +37,8 @@ module _ (a : Architecture) (z : IsProper a) (leaders followers groups : List �
   follower-at : (k : ℕ) → getD groups (272 + k) 0 ≡ getD followers k 0
   follower-at k = rw (is, ← leaders-long) (getD-append-add leaders followers k 0)
 
-  are-grouped : take (length (entries (architectureOf a))) leaders ≡ entryLeaders (architectureOf a) → FollowersAre (length (entries (architectureOf a))) leaders followers → Grouped (architectureOf a) groups
+  are-grouped : take (length (entries (architectureOf a))) leaders ≡ entryLeaders (architectureOf a) → FollowersAre (length (entries (architectureOf a))) leaders followers
+      → Grouped (architectureOf a) groups
   unfolding n
   are-grouped led next = record {
     chains = record {

@@ -1,5 +1,6 @@
 -- `search::settle_group` meets its contract. The loop's invariant: before k, the next entry of the group, both arrays are done, and from k on as they were.
 use mathlib.Core.Path.{_≡_, sym, subst, _∙_}
+use mathlib.Core.List.{List}
 use Prim.Native.Nat.{ℕ, _+_, _-_, _≤_, _<_}
 use native.Mathlib.Omega.{arith}
 use lib.ListN.{length, getD, set, take}
@@ -120,10 +121,11 @@ loop-again c =
     let l = t .before .loop in
     let own : getD (take (b .args .n) (b .args .groups .now)) (l .k) 0 ≡ b .args .l = leader-at b (l .k) (t .loop-test .taken) ∙ l .inv .1 (t .loop-test .taken) in
     let inside : l .k < length (take (b .args .n) (b .args .groups .now)) = omega (arith, t .loop-test .taken, leaders-long b) in
-    let value = c .before .group-value .ensures in (
+    let value = c .before .group-value .ensures in
+    let Values : ℕ → List ℕ → List ℕ → Type 0 = SetTo (groupAt (b .args .fixed .now) (b .args .l) (b .args .v)) (take (b .args .n) (b .args .groups .now)) (b .args .l) in (
       omega (arith, next t .inside, leaders-long b),
       λ h. sym (leader-at b _ h) ∙ next t .same (omega (arith, leaders-long b)) ∙ own,
-      subst (λ (x : ℕ). SetTo (groupAt (b .args .fixed .now) (b .args .l) (b .args .v)) (take (b .args .n) (b .args .groups .now)) (b .args .l) (getD (b .args .groups .now) (272 + l .k) 0) (b .args .values .now) (set (l .values) (l .k) x)) (sym value)
+      subst (λ (x : ℕ). Values (getD (b .args .groups .now) (272 + l .k) 0) (b .args .values .now) (set (l .values) (l .k) x)) (sym value)
           (set-more _ _ _ _ (l .k) _ (l .values) inside (omega (arith, below t, b .pre .0 .0)) own (next t) (l .inv .2)),
       set-more _ _ _ _ (l .k) _ (l .unset) inside (omega (arith, below t, b .pre .0 .1)) own (next t) (l .inv .3),
     )

@@ -6,7 +6,6 @@ use Prim.Native.Nat.{ℕ, _+_, _-_, _<_}
 use native.Mathlib.Omega.{arith}
 use borrow.Author.Needs.{needs}
 use borrow.Author.Tests.{not-true, not-false}
-use Rattle.model.specs.declared.Reply.{Reply}
 use Rattle.model.specs.Sheet.{Architecture}
 use Rattle.model.specs.Reading.{Reading, Front, proper, _then_, readProcesses}
 use Rattle.architecture.specs.Struct.{architectureOf}

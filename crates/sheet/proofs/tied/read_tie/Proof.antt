@@ -5,7 +5,7 @@ use mathlib.Core.List.{List}
 use Prim.Native.Nat.{ℕ, _+_}
 use native.Mathlib.Omega.{arith}
 use borrow.Author.Needs.{needs}
-use Rattle.model.specs.Sheet.{Tie, Architecture}
+use Rattle.model.specs.Sheet.{Architecture}
 use Rattle.model.specs.Reading.{short, tieAt, tieFault, readTie, proper}
 use Rattle.model.proofs.Refusing.{stop, go}
 use Rattle.architecture.specs.Struct.{architectureOf}
