@@ -20,8 +20,8 @@ uint32_t soclethyme_check(const uint8_t *sheet, size_t sheet_len);
 /* Finds the first tables that keep the sheet: writes their book at the front of
  * `book` and its exact annotation at the front of `annotation`, and leaves the
  * rests; or 256, where no tables that keep its ties keep the sheet, and writes
- * nothing. A buffer
- * that is too short is refused, even if the result would be none. */
+ * nothing. A buffer that is too short is refused, even if the result would be
+ * none. */
 uint32_t soclethyme_find(const uint8_t *sheet, size_t sheet_len,
                          uint8_t *book, size_t book_len,
                          uint16_t *annotation, size_t annotation_len);

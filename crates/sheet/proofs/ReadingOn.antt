@@ -2,7 +2,7 @@
 use mathlib.Core.Path.{_≡_, refl, sym, ap, _∙_}
 use mathlib.Core.Bool.{Bool, true, false, _||_, not}
 use mathlib.Core.List.{List}
-use Prim.Native.Nat.{ℕ, zero, suc, _+_, _-_, _<_}
+use Prim.Native.Nat.{ℕ, zero, suc, _+_, _-_, _<_, _≤_}
 use native.Mathlib.Omega.{arith}
 use Rattle.model.specs.declared.Refusal.{Refusal}
 use Rattle.model.specs.declared.Refusal.the-variants.{SheetTooShort, WrongMark, BadArchitecture, BadProcess, BadTie}
@@ -18,6 +18,7 @@ use Rattle.sheet.specs.declared.Sheet.{Sheet}
 use Rattle.sheet.specs.Struct.{readingAs, outputsOf, frontOf, frontAs, FrontKnown, automatonAs}
 use Rattle.sheet.specs.Steps.{processFrom, tieFrom}
 use Rattle.sheet.proofs.OwnedOutputs.{taken-is}
+use Rattle.sheet.proofs.AnswersOfReading.{front-refused, front-done}
 
 -- a refusal stays, whatever follows
 pub refuse-then : {A B : Type 0} (r : Refusal) (t : Bool) (m : Reading A) (f : A → Reading B) → (refuse_when_else_ r t m then f) ≡ refuse_when_else_ r t (m then f)
@@ -63,6 +64,44 @@ pub read-ends : {b : List ℕ} {many : ℕ → Architecture → ℕ → Reading 
     → proper record { architecture = architectureOf (f .architecture); end = f .end } ≡ frontOf f
 unfolding frontAs
 read-ends {f = f} i = sym (ap (λ (x : Reply). frontAs x (f .architecture) (f .end)) (i .done))
+
+module _ {marks : Architecture → ℕ → Bool} {step : Architecture → ℕ → Reading Front} {many : ℕ → Architecture → ℕ → Reading Front} (R : Repeats marks step many)
+    {b : List ℕ} {most count : ℕ} {first f : FrontRead} (i : RecordsRead b many most count first f) where
+  abbrev here : Architecture
+  here = architectureOf (f .architecture)
+
+  abbrev all : Reading Front
+  all = many most (architectureOf (first .architecture)) (first .end)
+
+  -- no mark, or enough of them: what was read is all
+  pub reads-none : marks here (f .end) ≡ false → frontOf f ≡ all
+  reads-none h = sym (read-ends i) ∙ sym (repeats-none R here (f .end) (most - count) h) ∙ i .rest
+
+  pub reads-enough : most ≤ count → frontOf f ≡ all
+  reads-enough h =
+      let none : most - count ≡ 0 = omega arith in
+      sym (read-ends i) ∙ sym (ap (λ (k : ℕ). many k here (f .end)) none ∙ R .last here (f .end)) ∙ i .rest
+
+  -- a step at a mark, which read g
+  abbrev rest : Front → Reading Front
+  rest x = many (most - (count + 1)) (x .architecture) (x .end)
+
+  module _ (room : count < most) (h : marks here (f .end) ≡ true) where
+    stepped : (step here (f .end) then rest) ≡ all
+    stepped = sym (repeats-turn R here (f .end) most count room h) ∙ i .rest
+
+    pub reads-refused : (g : FrontRead) {r : Refusal} → frontOf g ≡ step here (f .end) → g .answer ≡ Reply.Refused r → frontOf g ≡ all
+    reads-refused g {r} e q =
+        let refused = front-refused _ (g .answer) (g .architecture) (g .end) e r q in
+        e ∙ refused ∙ sym (then-refused rest refused) ∙ stepped
+
+    pub reads-on : (g : FrontRead) {n : ℕ} → frontOf g ≡ step here (f .end) → FrontKnown b g → g .answer ≡ Reply.Done → n ≡ count + 1 → RecordsRead b many most n first g
+    reads-on g e known done more = record {
+      known = known;
+      done = done;
+      rest = ap (λ (n : ℕ). many (most - n) (architectureOf (g .architecture)) (g .end)) more
+          ∙ sym (then-proper rest (front-done _ (g .answer) (g .architecture) (g .end) e done)) ∙ stepped;
+    }
 
 -- one record of two tests, and then what follows it
 tested-then : (r q : Refusal) (t u : Bool) (x : Front) (f : Front → Reading Front)
