@@ -2,7 +2,8 @@
 //! book, annotation and text.
 
 use crate::refusal::{
-    Refusal, CUT_OFF, WRONG_COMPOSITION, WRONG_EDGE, WRONG_MARK, WRONG_PROCESS, WRONG_TIE,
+    Refusal, CUT_OFF, WRONG_COMPOSITION, WRONG_EDGE, WRONG_MARK, WRONG_PROCESS, WRONG_PROMPT,
+    WRONG_TIE,
 };
 use crate::run_graph::BLANK;
 use crate::sheet::{Edge, Process, RecordKind, Sheet};
@@ -67,6 +68,45 @@ pub const SHEET_U: [u8; 71] = [
 /// What is printed for U.
 pub const TEXT_U: &str = "tables 8\n0 0 00 1\n0 1 01 0\n1 0 00 1\n1 1 02 0\n\
     2 0 00 0\n2 1 00 0\n3 0 00 0\n3 1 00 0\ngreatest 1\n";
+
+/// Case P as the specification lists it.
+pub const SHEET_P: [u8; 60] = [
+    0x41, 0x52, 0x03, 0x01, 0x00, 0x50, 0x52, 0x01, 0x02, 0x02, 0x50, 0x4D, 0x02, 0x04, 0x02, 0x02,
+    0x41, 0x55, 0x02, 0x00, 0x02, 0x00, 0x45, 0x44, 0x00, 0x00, 0x00, 0x00, 0x45, 0x44, 0x00, 0x01,
+    0x01, 0x02, 0x45, 0x44, 0x00, 0x01, 0x02, 0x01, 0x45, 0x44, 0x00, 0x01, 0x02, 0x04, 0x45, 0x44,
+    0x00, 0x01, 0x04, 0x02, 0x45, 0x44, 0x01, 0x01, 0x00, 0x00, 0x45, 0x4E,
+];
+
+/// What is printed for P.
+pub const TEXT_P: &str = "tables 4\n0 0 00 0 1\n0 1 02 0 1\n1 0 00 0 1\n1 1 04 0 1\ngreatest 0\n";
+
+/// P's book: each process puts out what it reads.
+pub const BOOK_P: [u8; 30] = *b"TB\x00\x00\x00\x00\x01TB\x00\x01\x02\x00\x01\
+    TB\x01\x00\x00\x00\x01TB\x01\x01\x04\x00\x01EN";
+
+/// Case Q as the specification lists it.
+pub const SHEET_Q: [u8; 77] = [
+    0x41, 0x52, 0x04, 0x01, 0x00, 0x50, 0x52, 0x01, 0x02, 0x02, 0x50, 0x52, 0x01, 0x04, 0x02, 0x50,
+    0x4D, 0x06, 0x08, 0x02, 0x02, 0x41, 0x55, 0x03, 0x00, 0x02, 0x00, 0x45, 0x44, 0x00, 0x01, 0x01,
+    0x08, 0x45, 0x44, 0x00, 0x01, 0x08, 0x01, 0x45, 0x44, 0x00, 0x00, 0x00, 0x01, 0x45, 0x44, 0x00,
+    0x02, 0x01, 0x00, 0x45, 0x44, 0x02, 0x01, 0x08, 0x00, 0x45, 0x44, 0x02, 0x00, 0x00, 0x01, 0x45,
+    0x44, 0x02, 0x02, 0x01, 0x00, 0x45, 0x44, 0x01, 0x01, 0x00, 0x00, 0x45, 0x4E,
+];
+
+/// What is printed for Q, and for Q with the prompt mask 04.
+pub const TEXT_Q: &str = "tables 6\n0 0 00 0 1\n0 1 02 0 0\n1 0 00 0 1\n1 1 04 0 1\n\
+    2 0 00 0 1 0 0\n2 1 08 0 0 0 0\ngreatest 0\n";
+pub const TEXT_Q_04: &str = "tables 6\n0 0 00 0 1\n0 1 02 0 1\n1 0 00 0 1\n1 1 04 0 0\n\
+    2 0 00 0 0 1 0\n2 1 08 0 0 0 0\ngreatest 0\n";
+
+/// Q's book.
+pub const BOOK_Q: [u8; 48] = *b"TB\x00\x00\x00\x00\x01TB\x00\x01\x02\x00\x00\
+    TB\x01\x00\x00\x00\x01TB\x01\x01\x04\x00\x01\
+    TB\x02\x00\x00\x00\x01\x00\x00TB\x02\x01\x08\x00\x00\x00\x00EN";
+
+/// What is printed for the chain.
+pub const TEXT_CHAIN: &str = "tables 6\n0 0 00 0 1\n0 1 02 0 1\n1 0 00 0 1\n1 1 04 0 1\n\
+    2 0 00 0 1\n2 1 08 0 1\ngreatest 0\n";
 
 /// A, field by field.
 pub fn case_a() -> Sheet {
@@ -269,6 +309,89 @@ fn case_s_with_ties(ties: &[Tie]) -> Sheet {
     }
 }
 
+/// Variable 1 is always as variable 0, and variable 2 as variable 1, which its
+/// owner reads: as a PM with these prompt inputs, or as a PR.
+pub fn case_p(prompt_mask: Option<u8>) -> Sheet {
+    let second = Process {
+        prompt_mask,
+        ..Process::new(0x02, 0x04, 2)
+    };
+    Sheet {
+        variables: 3,
+        environment: 1,
+        processes: vec![Process::new(0x01, 0x02, 2), second],
+        states: 2,
+        rejecting: 0x0002,
+        edges: vec![
+            Edge::new(0, 0, 0x00, 0x00),
+            Edge::new(0, 1, 0x01, 0x02),
+            Edge::new(0, 1, 0x02, 0x01),
+            Edge::new(0, 1, 0x02, 0x04),
+            Edge::new(0, 1, 0x04, 0x02),
+            Edge::new(1, 1, 0x00, 0x00),
+        ],
+        ..Sheet::default()
+    }
+}
+
+/// Variable 3 is on exactly in the first step of each time that variable 0 is on.
+/// Its owner reads variables 1 and 2, these promptly.
+pub fn case_q(prompts: u8) -> Sheet {
+    Sheet {
+        variables: 4,
+        environment: 1,
+        processes: vec![
+            Process::new(0x01, 0x02, 2),
+            Process::new(0x01, 0x04, 2),
+            Process::with_prompts(0x06, 0x08, 2, prompts),
+        ],
+        states: 3,
+        rejecting: 0x0002,
+        edges: vec![
+            Edge::new(0, 1, 0x01, 0x08),
+            Edge::new(0, 1, 0x08, 0x01),
+            Edge::new(0, 0, 0x00, 0x01),
+            Edge::new(0, 2, 0x01, 0x00),
+            Edge::new(2, 1, 0x08, 0x00),
+            Edge::new(2, 0, 0x00, 0x01),
+            Edge::new(2, 2, 0x01, 0x00),
+            Edge::new(1, 1, 0x00, 0x00),
+        ],
+        ..Sheet::default()
+    }
+}
+
+/// Variable 3 is always as variable 0, which goes through three processes within
+/// the step.
+pub fn case_chain(ties: &[Tie]) -> Sheet {
+    Sheet {
+        variables: 4,
+        environment: 1,
+        processes: vec![
+            Process::new(0x01, 0x02, 2),
+            Process::with_prompts(0x02, 0x04, 2, 0x02),
+            Process::with_prompts(0x04, 0x08, 2, 0x04),
+        ],
+        ties: ties.to_vec(),
+        states: 2,
+        rejecting: 0x0002,
+        edges: vec![
+            Edge::new(0, 0, 0x00, 0x00),
+            Edge::new(0, 1, 0x01, 0x08),
+            Edge::new(0, 1, 0x08, 0x01),
+            Edge::new(1, 1, 0x00, 0x00),
+        ],
+        ..Sheet::default()
+    }
+}
+
+/// The same with that process as a PR.
+pub fn case_chain_delayed(ties: &[Tie], delayed: usize) -> Sheet {
+    let mut sheet = case_chain(ties);
+    sheet.processes[delayed].prompt_mask = None;
+    sheet
+}
+
 /// The cases that are proper sheets, each with a name.
 pub fn proper_cases() -> Vec<(&'static str, Sheet)> {
     vec![
@@ -299,6 +422,17 @@ pub fn proper_cases() -> Vec<(&'static str, Sheet)> {
         ("case U", case_u()),
         ("case U, chained", case_u_with_tie([3, 1])),
         ("case U, circular", case_u_circular()),
+        ("case P", case_p(Some(0x02))),
+        ("case P, prompt 00", case_p(Some(0x00))),
+        ("case P, a PR", case_p(None)),
+        ("case Q", case_q(0x02)),
+        ("case Q, prompt 04", case_q(0x04)),
+        ("case Q, prompt 00", case_q(0x00)),
+        ("case Q, prompt 06", case_q(0x06)),
+        ("chain", case_chain(&[])),
+        ("chain, tied", case_chain(&[[2, 1]])),
+        ("chain, delayed first", case_chain_delayed(&[], 1)),
+        ("chain, delayed second", case_chain_delayed(&[], 2)),
     ]
 }
 
@@ -328,6 +462,60 @@ pub fn refused_cases() -> Vec<RefusedCase> {
     }
     cases.extend(misplaced_ties_of_s());
     cases.extend(wrong_ties_of_s());
+    cases.extend(wrong_prompts_of_p());
+    cases.extend(misplaced_prompts_of_p());
+    for delayed in 1..=2 {
+        let sheet = case_chain_delayed(&[[2, 1]], delayed);
+        cases.push(("chain, tied and delayed", sheet.bytes(), WRONG_TIE));
+    }
+    cases
+}
+
+/// P with a prompt input that is none, alone and where the output of a PM is taken
+/// before that, or a tie is wrong or a variable without an owner behind it.
+fn wrong_prompts_of_p() -> Vec<RefusedCase> {
+    let name = "case P, wrong prompt";
+    let mut cases = Vec::new();
+    // Of the environment, its own output, no variable, and not read.
+    for (inputs, prompts) in [(3, 1), (2, 4), (2, 8), (2, 0x82), (1, 2), (0, 2)] {
+        let mut sheet = case_p(Some(prompts));
+        sheet.processes[1].inputs = inputs;
+        cases.push((name, sheet.bytes(), WRONG_PROMPT));
+        sheet.ties.push([0, 0]);
+        cases.push((name, sheet.bytes(), WRONG_PROMPT));
+        sheet.variables = 4;
+        cases.push((name, sheet.bytes(), WRONG_PROMPT));
+        sheet.processes[1].outputs = 0x02;
+        sheet.processes[1].inputs &= !0x02;
+        cases.push((name, sheet.bytes(), WRONG_PROCESS));
+    }
+    // Of a process that follows.
+    let mut swapped = case_p(Some(0x02));
+    swapped.processes.swap(0, 1);
+    cases.push((name, swapped.bytes(), WRONG_PROMPT));
+    cases
+}
+
+/// P with a PM that is cut off, though its fields are wrong; and with one behind
+/// an SY or as the fifth process, whole and cut off.
+fn misplaced_prompts_of_p() -> Vec<RefusedCase> {
+    let mut cases = Vec::new();
+    for fields in [&[][..], &[255], &[255, 255], &[255, 255, 9], &[2, 4, 2]] {
+        let cut = [&SHEET_P[..12], fields].concat();
+        cases.push(("case P, PM cut off", cut, CUT_OFF));
+    }
+    let mut tied = case_p(Some(0x00));
+    tied.ties.push([1, 0]);
+    let mut four = case_p(Some(0x02));
+    four.processes.resize(4, Process::with_prompts(0, 0, 1, 0));
+    let name = "case P, PM may not stand there";
+    for (sheet, records) in [(tied, 4), (four, 5)] {
+        let front = sheet.records()[..records].concat();
+        for fields in [&[][..], &[0], &[0, 0, 1], &[0, 0, 1, 0]] {
+            let mark = RecordKind::ProcessWithPrompts.mark();
+            cases.push((name, [&front[..], mark, fields].concat(), WRONG_MARK));
+        }
+    }
     cases
 }
 

@@ -1,6 +1,7 @@
 //! Random sheets with so few choices that all of them can be tried.
 
 use crate::choices::untied_count;
+use crate::prompt_relays;
 use crate::random_sheets::{self, any_shape, shapes, Shape};
 use crate::rejecting_loops;
 use crate::rng::Rng;
@@ -33,6 +34,24 @@ pub fn with_ties(rng: &mut Rng, most: u64) -> Sheet {
         let outputs = |tie: &Tie| sheet.processes[usize::from(tie[0])].outputs;
         let mut ties = sheet.ties.iter();
         if ties.any(|tie| outputs(tie) != 0 || rng.one_in(20)) {
+            return sheet;
+        }
+    }
+}
+
+/// One with prompt inputs of processes that have a next state to choose. In two of
+/// three the tables may depend on when these are read, and ties count.
+pub fn with_prompts(rng: &mut Rng, most: u64) -> Sheet {
+    let of_any_shape = rng.one_in(3);
+    loop {
+        let sheet = if of_any_shape {
+            let shape = any_shape(rng, |shape| shape.processes > 1);
+            sheet_of_shape(rng, shape, most)
+        } else {
+            prompt_relays::sheet(rng, most)
+        };
+        let mut processes = sheet.processes.iter();
+        if processes.any(|process| process.prompts() != 0 && process.bound > 1) {
             return sheet;
         }
     }
@@ -75,37 +94,34 @@ fn shape(rng: &mut Rng) -> Shape {
     }
 }
 
-/// One state or one input less in some process, and in those tied to it; high
-/// inputs stay longer.
-fn shrink(rng: &mut Rng, sheet: &mut Sheet) {
+/// One state or one input less in some process, and in those tied to it the one
+/// at the same place; high inputs stay longer.
+pub(crate) fn shrink(rng: &mut Rng, sheet: &mut Sheet) {
     let groups = tied_groups(sheet);
     let group = rng.pick(&groups);
-    let fewer_states = sheet.processes[group[0]].inputs == 0 || rng.one_in(3);
+    let inputs = sheet.processes[group[0]].inputs.count_ones() as usize;
+    let fewer_states = inputs == 0 || rng.one_in(3);
+    let place = rng.below(inputs.max(1)).min(rng.below(inputs.max(1)));
     for index in group {
         let process = &mut sheet.processes[*index];
         if fewer_states {
             process.bound = (process.bound - 1).max(1);
         } else {
-            let inputs = variables_of(process.inputs);
-            process.inputs ^= 1 << rng.pick(&inputs).min(rng.pick(&inputs));
+            process.inputs ^= 1 << variables_of(process.inputs)[place];
+            process.keep_prompts(process.inputs);
         }
     }
 }
 
 /// The automaton state that waits for causes, and the one that is never left
 /// again.
-const WAITING: u8 = 0;
-const VIOLATED: u8 = 1;
+pub(crate) const WAITING: u8 = 0;
+pub(crate) const VIOLATED: u8 = 1;
 
 /// Gives the sheet an automaton with a few requirements, so that not every
 /// choice keeps it and yet some choice often does.
 fn set_requirements(rng: &mut Rng, sheet: &mut Sheet) {
-    sheet.states = 2;
-    sheet.initial = WAITING;
-    sheet.rejecting = 1 << VIOLATED;
-    sheet.edges.clear();
-    add_edge(sheet, WAITING, WAITING, ANY_LABEL);
-    add_edge(sheet, VIOLATED, VIOLATED, ANY_LABEL);
+    open_requirements(sheet);
     for _ in 0..rng.within(1, 4) {
         match rng.below(7) {
             0..=2 => require_response(rng, sheet),
@@ -124,6 +140,21 @@ fn set_requirements(rng: &mut Rng, sheet: &mut Sheet) {
     if rng.one_in(8) {
         sheet.states = rng.within(sheet.states as usize, MOST_STATES) as u8;
     }
+    close_requirements(rng, sheet);
+}
+
+/// The automaton with no requirement yet.
+pub(crate) fn open_requirements(sheet: &mut Sheet) {
+    sheet.states = 2;
+    sheet.initial = WAITING;
+    sheet.rejecting = 1 << VIOLATED;
+    sheet.edges.clear();
+    add_edge(sheet, WAITING, WAITING, ANY_LABEL);
+    add_edge(sheet, VIOLATED, VIOLATED, ANY_LABEL);
+}
+
+/// The same automaton, written in some other way.
+pub(crate) fn close_requirements(rng: &mut Rng, sheet: &mut Sheet) {
     say_unless(rng, sheet);
     renumber(rng, sheet);
 }
@@ -170,7 +201,7 @@ fn require_difference(rng: &mut Rng, sheet: &mut Sheet) {
 
 /// In this state some values are forbidden, those of outputs among them; or all
 /// others are.
-fn forbid_in(rng: &mut Rng, sheet: &mut Sheet, state: u8) {
+pub(crate) fn forbid_in(rng: &mut Rng, sheet: &mut Sheet, state: u8) {
     if rng.one_in(4) {
         let (on, off) = edge_masks(rng, sheet, 0, 2);
         sheet.edges.push(Edge::unless(state, VIOLATED, on, off));
@@ -199,16 +230,16 @@ fn forbid_initially(rng: &mut Rng, sheet: &mut Sheet) {
     forbid_in(rng, sheet, sheet.initial);
 }
 
-fn add_state(sheet: &mut Sheet) -> u8 {
+pub(crate) fn add_state(sheet: &mut Sheet) -> u8 {
     sheet.states += 1;
     sheet.states - 1
 }
 
 /// The on and the off mask of an edge.
-type EdgeMasks = (u8, u8);
+pub(crate) type EdgeMasks = (u8, u8);
 
 /// Met by all labels.
-const ANY_LABEL: EdgeMasks = (0, 0);
+pub(crate) const ANY_LABEL: EdgeMasks = (0, 0);
 
 /// Masks in which so many variables of any kind, and so many outputs, have
 /// values drawn for them: more often off, so that tables of zeros often fail.
@@ -226,7 +257,7 @@ fn edge_masks(rng: &mut Rng, sheet: &Sheet, any: usize, outputs: usize) -> EdgeM
     (on, off)
 }
 
-fn add_edge(sheet: &mut Sheet, from: u8, to: u8, (on, off): EdgeMasks) {
+pub(crate) fn add_edge(sheet: &mut Sheet, from: u8, to: u8, (on, off): EdgeMasks) {
     sheet.edges.push(Edge::new(from, to, on, off));
 }
 

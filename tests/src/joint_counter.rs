@@ -101,10 +101,9 @@ impl JointCounter {
     }
 
     fn sheet(&self) -> Sheet {
-        let processes = (0..self.processes).map(|process| Process {
-            inputs: self.outputs_below(process),
-            outputs: self.output(process),
-            bound: self.bounds[process],
+        let processes = (0..self.processes).map(|process| {
+            let inputs = self.outputs_below(process);
+            Process::new(inputs, self.output(process), self.bounds[process])
         });
         Sheet {
             variables: self.environment + self.processes as u8,

@@ -1,5 +1,6 @@
 //! Sheets with any number of faults, made from proper ones or from nothing.
 
+use crate::random_prompts;
 use crate::random_sheets;
 use crate::random_ties;
 use crate::rng::Rng;
@@ -9,13 +10,18 @@ use crate::sheet::{RecordKind, Sheet};
 const LIMITS: [u8; 16] = [0, 1, 2, 3, 4, 5, 7, 8, 9, 15, 16, 17, 64, 127, 128, 255];
 
 /// The marks of sheets and books.
-pub const MARKS: [&[u8; 2]; 8] = [b"AR", b"PR", b"SY", b"AU", b"ED", b"EX", b"EN", b"TB"];
+pub const MARKS: [&[u8; 2]; 9] = [
+    b"AR", b"PR", b"PM", b"SY", b"AU", b"ED", b"EX", b"EN", b"TB",
+];
 
 /// A sheet changed in a few ways at once; the first fault then decides.
 pub fn changed_sheet(rng: &mut Rng, sheet: &Sheet) -> Vec<u8> {
     let mut sheet = sheet.clone();
     if rng.one_in(8) {
         random_ties::spoil(rng, &mut sheet);
+    }
+    if rng.one_in(8) {
+        random_prompts::spoil(rng, &mut sheet);
     }
     let mut records = sheet.records();
     for _ in 0..rng.below(4) {

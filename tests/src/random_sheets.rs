@@ -1,5 +1,6 @@
 //! Random proper sheets of every shape.
 
+use crate::random_prompts::add_prompts;
 use crate::random_ties;
 use crate::rng::Rng;
 use crate::sheet::{
@@ -95,9 +96,24 @@ pub fn with_chained_ties(rng: &mut Rng) -> Sheet {
     }
 }
 
-/// A proper sheet with all records that a sheet can have: 429 bytes.
+/// A proper sheet with prompt inputs, of so many processes at least.
+pub fn with_prompts(rng: &mut Rng, processes: usize) -> Sheet {
+    loop {
+        let shape = any_shape(rng, |shape| shape.processes >= processes);
+        let sheet = proper_of_shape(rng, shape);
+        if sheet.has_prompts() {
+            return sheet;
+        }
+    }
+}
+
+/// A proper sheet with all records that a sheet can have, each process a PM: 433
+/// bytes.
 pub fn with_all_records(rng: &mut Rng) -> Sheet {
     let mut sheet = with_ties(rng, MOST_PROCESSES);
+    for process in &mut sheet.processes {
+        process.prompt_mask.get_or_insert(0);
+    }
     random_ties::add_ties(rng, &mut sheet, MOST_TIES);
     sheet.edges.clear();
     add_edges(rng, &mut sheet, MOST_EDGES);
@@ -120,6 +136,9 @@ pub fn with_longest_book(rng: &mut Rng) -> Sheet {
         let inputs = mask_of(&others[..MOST_INPUTS as usize]);
         let bound = MOST_BOUND as u8;
         sheet.processes.push(Process::new(inputs, outputs, bound));
+    }
+    if rng.one_in(2) {
+        add_prompts(rng, &mut sheet.processes, &[vec![0], vec![1, 2, 3]]);
     }
     let ties = rng.within(0, MOST_TIES);
     random_ties::add_ties(rng, &mut sheet, ties);
@@ -173,6 +192,10 @@ fn processes(rng: &mut Rng, shape: Shape) -> Vec<Process> {
     for (outputs, bound) in outputs.into_iter().zip(bounds) {
         let inputs = inputs(rng, all & !outputs);
         processes.push(Process::new(inputs, outputs, bound));
+    }
+    if rng.one_in(2) {
+        let each: Vec<Vec<usize>> = (0..shape.processes).map(|index| vec![index]).collect();
+        add_prompts(rng, &mut processes, &each);
     }
     processes
 }

@@ -1,6 +1,7 @@
 //! Random processes that can share a table, ties between them, and ties that are
 //! wrong or stand in a wrong place.
 
+use crate::random_prompts::{add_prompts, any_of, outputs_below};
 use crate::random_sheets::{self, Shape};
 use crate::rng::Rng;
 use crate::sheet::{
@@ -35,6 +36,9 @@ fn processes_in(rng: &mut Rng, shape: Shape, groups: Vec<Vec<usize>>) -> Option<
             let inputs = as_many_inputs(rng, inputs, others);
             processes[*index] = Process::new(inputs, outputs[*index], bound);
         }
+    }
+    if rng.one_in(2) {
+        add_prompts(rng, &mut processes, &groups);
     }
     Some(processes)
 }
@@ -128,7 +132,9 @@ pub fn spoil_by(rng: &mut Rng, sheet: &mut Sheet, index: usize, fault: TieFault)
     let missing = missing_process(rng, sheet);
     let side = rng.below(2);
     let tie = &mut sheet.ties[index];
-    let process = &mut sheet.processes[tie[side] as usize];
+    let number = usize::from(tie[side]);
+    let lower = outputs_below(&sheet.processes, number);
+    let process = &mut sheet.processes[number];
     match fault {
         TieFault::LeftMissing => tie[0] = missing,
         TieFault::RightMissing => tie[1] = missing,
@@ -141,8 +147,13 @@ pub fn spoil_by(rng: &mut Rng, sheet: &mut Sheet, index: usize, fault: TieFault)
             let full = process.inputs.count_ones() == MOST_INPUTS;
             let others = all & !process.outputs;
             process.inputs ^= any_of(rng, if full { process.inputs } else { others });
+            process.keep_prompts(process.inputs);
         }
         TieFault::OutputCountsDiffer => process.outputs ^= any_of(rng, process.outputs),
+        TieFault::PromptPlacesDiffer => {
+            let other = any_of(rng, process.inputs & lower);
+            process.prompt_mask = Some(process.prompts() ^ other);
+        }
     }
 }
 
@@ -150,14 +161,6 @@ pub fn spoil_by(rng: &mut Rng, sheet: &mut Sheet, index: usize, fault: TieFault)
 fn missing_process(rng: &mut Rng, sheet: &Sheet) -> u8 {
     let count = sheet.processes.len() as u8;
     *rng.pick(&[count, count + 1, count + 3, 16, 128, 129, 254, 255])
-}
-
-/// One variable of a mask alone, none if it has none.
-fn any_of(rng: &mut Rng, mask: u8) -> u8 {
-    match variables_of(mask) {
-        variables if variables.is_empty() => 0,
-        variables => 1 << rng.pick(&variables),
-    }
 }
 
 /// A tied sheet with an SY before any PR, or with a PR or one SY too many behind

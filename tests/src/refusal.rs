@@ -16,6 +16,7 @@ pub const WRONG_FORM: Refusal = 10;
 pub const WRONG_ENTRY: Refusal = 11;
 pub const NO_PROCESS: Refusal = 12;
 pub const WRONG_TIE: Refusal = 15;
+pub const WRONG_PROMPT: Refusal = 21;
 
 /// Those of a sheet.
-pub const SHEET_REFUSALS: [Refusal; 8] = [1, 2, 3, 4, 5, 6, 7, WRONG_TIE];
+pub const SHEET_REFUSALS: [Refusal; 9] = [1, 2, 3, 4, 5, 6, 7, WRONG_TIE, WRONG_PROMPT];

@@ -1,8 +1,9 @@
 //! An independent reading of the sheet file.
 
+use crate::prompts::prompt_faults;
 use crate::refusal::{
     Refusal, CUT_OFF, WRONG_ARCHITECTURE, WRONG_AUTOMATON, WRONG_COMPOSITION, WRONG_EDGE,
-    WRONG_MARK, WRONG_PROCESS, WRONG_TIE,
+    WRONG_MARK, WRONG_PROCESS, WRONG_PROMPT, WRONG_TIE,
 };
 use crate::ties::{tie_faults, Tie};
 
@@ -16,13 +17,14 @@ pub const MOST_COMPOSED: usize = 256;
 pub const MOST_STATES: usize = 16;
 pub const MOST_VERTICES: usize = MOST_COMPOSED * MOST_STATES;
 pub const MOST_EDGES: usize = 64;
-pub const LONGEST_SHEET: usize = 429;
+pub const LONGEST_SHEET: usize = 433;
 
 /// The kinds of records in a sheet.
 #[derive(Clone, Copy, Debug, PartialEq, Eq)]
 pub enum RecordKind {
     Architecture,
     Process,
+    ProcessWithPrompts,
     Tie,
     Automaton,
     Edge,
@@ -31,9 +33,10 @@ pub enum RecordKind {
 }
 
 impl RecordKind {
-    pub const IN_ORDER: [RecordKind; 7] = [
+    pub const IN_ORDER: [RecordKind; 8] = [
         RecordKind::Architecture,
         RecordKind::Process,
+        RecordKind::ProcessWithPrompts,
         RecordKind::Tie,
         RecordKind::Automaton,
         RecordKind::Edge,
@@ -42,14 +45,18 @@ impl RecordKind {
     ];
 
     /// All but the last.
-    pub const WITH_FIELDS: [RecordKind; 6] = [
+    pub const WITH_FIELDS: [RecordKind; 7] = [
         RecordKind::Architecture,
         RecordKind::Process,
+        RecordKind::ProcessWithPrompts,
         RecordKind::Tie,
         RecordKind::Automaton,
         RecordKind::Edge,
         RecordKind::EdgeUnless,
     ];
+
+    /// The two kinds of processes.
+    pub const PROCESSES: [RecordKind; 2] = [RecordKind::Process, RecordKind::ProcessWithPrompts];
 
     /// The two kinds of edges.
     pub const EDGES: [RecordKind; 2] = [RecordKind::Edge, RecordKind::EdgeUnless];
@@ -58,6 +65,7 @@ impl RecordKind {
         match self {
             RecordKind::Architecture => b"AR",
             RecordKind::Process => b"PR",
+            RecordKind::ProcessWithPrompts => b"PM",
             RecordKind::Tie => b"SY",
             RecordKind::Automaton => b"AU",
             RecordKind::Edge => b"ED",
@@ -71,30 +79,67 @@ impl RecordKind {
         match self {
             RecordKind::Architecture | RecordKind::Process => 3,
             RecordKind::Tie => 2,
-            RecordKind::Automaton | RecordKind::Edge | RecordKind::EdgeUnless => 4,
+            RecordKind::ProcessWithPrompts
+            | RecordKind::Automaton
+            | RecordKind::Edge
+            | RecordKind::EdgeUnless => 4,
             RecordKind::End => 0,
         }
     }
 }
 
+/// A PM has a mask of prompt inputs, and a PR has none.
 #[derive(Clone, Copy, Debug, Default, PartialEq, Eq)]
 pub struct Process {
     pub inputs: u8,
     pub outputs: u8,
     pub bound: u8,
+    pub prompt_mask: Option<u8>,
 }
 
 impl Process {
-    pub fn new(inputs: u8, outputs: u8, bound: u8) -> Self {
+    pub const fn new(inputs: u8, outputs: u8, bound: u8) -> Self {
         Process {
             inputs,
             outputs,
             bound,
+            prompt_mask: None,
         }
     }
 
-    pub fn fields(&self) -> [u8; 3] {
-        [self.inputs, self.outputs, self.bound]
+    pub const fn with_prompts(inputs: u8, outputs: u8, bound: u8, prompts: u8) -> Self {
+        Process {
+            inputs,
+            outputs,
+            bound,
+            prompt_mask: Some(prompts),
+        }
+    }
+
+    /// The inputs that it reads after the step of their owners.
+    pub fn prompts(&self) -> u8 {
+        self.prompt_mask.unwrap_or(0)
+    }
+
+    /// Drops the prompt inputs that are none of these.
+    pub fn keep_prompts(&mut self, kept: u8) {
+        self.prompt_mask = self.prompt_mask.map(|prompts| prompts & kept);
+    }
+
+    /// The places of its prompt inputs in its rows, as a mask of inputs in rising
+    /// order.
+    pub fn prompt_places(&self) -> u8 {
+        packed(self.inputs, self.prompts())
+    }
+
+    pub fn kind(&self) -> RecordKind {
+        RecordKind::PROCESSES[usize::from(self.prompt_mask.is_some())]
+    }
+
+    pub fn record(&self) -> Vec<u8> {
+        let mut fields = vec![self.inputs, self.outputs, self.bound];
+        fields.extend(self.prompt_mask);
+        record(self.kind(), &fields)
     }
 
     /// How many next states each of its rows has.
@@ -262,10 +307,9 @@ impl Sheet {
         let [low, high] = self.rejecting.to_le_bytes();
         let architecture = [self.variables, self.environment, self.root];
         let automaton = [self.states, self.initial, low, high];
-        let processes = self.processes.iter().map(Process::fields);
 
         let mut records = vec![record(RecordKind::Architecture, &architecture)];
-        records.extend(processes.map(|fields| record(RecordKind::Process, &fields)));
+        records.extend(self.processes.iter().map(Process::record));
         records.extend(self.ties.iter().map(|tie| record(RecordKind::Tie, tie)));
         records.push(record(RecordKind::Automaton, &automaton));
         records.extend(self.edges.iter().map(Edge::record));
@@ -283,6 +327,27 @@ impl Sheet {
             ties: Vec::new(),
             ..self.clone()
         }
+    }
+
+    /// The same sheet, each process a PR.
+    pub fn without_prompts(&self) -> Sheet {
+        let mut sheet = self.clone();
+        for process in &mut sheet.processes {
+            process.prompt_mask = None;
+        }
+        sheet
+    }
+
+    /// Whether some process has a prompt input.
+    pub fn has_prompts(&self) -> bool {
+        self.processes.iter().any(|process| process.prompts() != 0)
+    }
+
+    /// The same sheet with so many processes only, and no ties.
+    pub fn up_to(&self, processes: usize) -> Sheet {
+        let mut sheet = self.without_ties();
+        sheet.processes.truncate(processes);
+        sheet
     }
 
     /// Whether it has edges of both kinds.
@@ -368,12 +433,16 @@ fn take<'a>(rest: &mut &'a [u8], count: usize) -> Result<&'a [u8], Refusal> {
 
 /// The records that may follow the last one.
 fn permitted(last: Option<RecordKind>, sheet: &Sheet) -> &'static [RecordKind] {
-    use RecordKind::{Architecture, Automaton, Edge, EdgeUnless, End, Process, Tie};
+    use RecordKind::{
+        Architecture, Automaton, Edge, EdgeUnless, End, Process, ProcessWithPrompts, Tie,
+    };
     match last {
         None => &[Architecture],
-        Some(Architecture) => &[Process],
-        Some(Process) if sheet.processes.len() == MOST_PROCESSES => &[Tie, Automaton],
-        Some(Process) => &[Process, Tie, Automaton],
+        Some(Architecture) => &RecordKind::PROCESSES,
+        Some(Process | ProcessWithPrompts) if sheet.processes.len() == MOST_PROCESSES => {
+            &[Tie, Automaton]
+        }
+        Some(Process | ProcessWithPrompts) => &[Process, ProcessWithPrompts, Tie, Automaton],
         Some(Tie) if sheet.ties.len() == MOST_TIES => &[Automaton],
         Some(Tie) => &[Tie, Automaton],
         Some(Automaton | Edge | EdgeUnless) if sheet.edges.len() == MOST_EDGES => &[End],
@@ -385,7 +454,7 @@ fn permitted(last: Option<RecordKind>, sheet: &Sheet) -> &'static [RecordKind] {
 fn add_record(sheet: &mut Sheet, kind: RecordKind, fields: &[u8]) -> Result<(), Refusal> {
     match kind {
         RecordKind::Architecture => add_architecture(sheet, fields),
-        RecordKind::Process => add_process(sheet, fields),
+        RecordKind::Process | RecordKind::ProcessWithPrompts => add_process(sheet, fields),
         RecordKind::Tie => add_tie(sheet, fields),
         RecordKind::Automaton => add_automaton(sheet, fields),
         RecordKind::Edge => add_edge(sheet, fields, false),
@@ -428,7 +497,12 @@ fn add_process(sheet: &mut Sheet, fields: &[u8]) -> Result<(), Refusal> {
     require(inputs & outputs == 0, WRONG_PROCESS)?;
     require(inputs.count_ones() <= MOST_INPUTS, WRONG_PROCESS)?;
     require((1..=MOST_BOUND).contains(&(bound as usize)), WRONG_PROCESS)?;
-    sheet.processes.push(Process::new(inputs, outputs, bound));
+    let process = Process {
+        prompt_mask: fields.get(3).copied(),
+        ..Process::new(inputs, outputs, bound)
+    };
+    require(prompt_faults(sheet, &process).is_empty(), WRONG_PROMPT)?;
+    sheet.processes.push(process);
     Ok(())
 }
 

@@ -1,13 +1,14 @@
 //! Sheets with one fault each, or with a change that is none. Their answers follow
 //! from how they are made.
 
+use crate::random_prompts::outputs_below;
 use crate::refusal::{
     Refusal, CUT_OFF, WRONG_ARCHITECTURE, WRONG_AUTOMATON, WRONG_COMPOSITION, WRONG_EDGE,
-    WRONG_MARK, WRONG_PROCESS, WRONG_TIE,
+    WRONG_MARK, WRONG_PROCESS, WRONG_PROMPT, WRONG_TIE,
 };
 use crate::sheet::{
-    mask_below, record, variables_of, RecordKind, Sheet, MOST_BOUND, MOST_COMPOSED, MOST_EDGES,
-    MOST_ENVIRONMENT, MOST_INPUTS, MOST_PROCESSES, MOST_TIES,
+    mask_below, packed, record, variables_of, Process, RecordKind, Sheet, MOST_BOUND,
+    MOST_COMPOSED, MOST_EDGES, MOST_ENVIRONMENT, MOST_INPUTS, MOST_PROCESSES, MOST_TIES,
 };
 use crate::ties::Tie;
 
@@ -68,7 +69,7 @@ pub fn architecture_faults(sheet: &Sheet) -> Vec<ChangedSheet> {
     copies.changed
 }
 
-/// Each PR field outside its rules, in the process of that index.
+/// Each field outside its rules, prompt inputs aside, in the process of that index.
 pub fn process_faults(sheet: &Sheet, index: usize) -> Vec<ChangedSheet> {
     let mut copies = ChangedCopies::new(sheet);
     let wrong = WRONG_PROCESS;
@@ -105,17 +106,50 @@ fn add_input_faults(copies: &mut ChangedCopies, index: usize) {
     }
 }
 
-/// All sets of up to four inputs that are not the process's own: proper, unless
-/// it is tied and the count is another one.
+/// All sets of up to four inputs that are not the process's own: proper, unless a
+/// prompt input is not among them, or it is tied and the count or the places of
+/// its prompt inputs are others.
 pub fn input_sets(sheet: &Sheet, index: usize) -> Vec<ChangedSheet> {
     let mut copies = ChangedCopies::new(sheet);
-    let own_count = sheet.processes[index].inputs.count_ones();
+    let process = sheet.processes[index];
+    let own_count = process.inputs.count_ones();
     for inputs in input_masks(sheet, index, |count| count <= MOST_INPUTS) {
-        let differs = is_tied(sheet, index) && inputs.count_ones() != own_count;
-        let answer = if differs { WRONG_TIE } else { 0 };
+        let other_places = packed(inputs, process.prompts()) != process.prompt_places();
+        let answer = if process.prompts() & !inputs != 0 {
+            WRONG_PROMPT
+        } else if is_tied(sheet, index) && (inputs.count_ones() != own_count || other_places) {
+            WRONG_TIE
+        } else {
+            0
+        };
         copies.add(answer, |s| s.processes[index].inputs = inputs);
     }
     copies.changed
+}
+
+/// All prompt masks: proper where they are outputs of lower processes that it
+/// reads, unless it is tied and their places are others.
+pub fn prompt_masks(sheet: &Sheet, index: usize) -> Vec<ChangedSheet> {
+    let mut copies = ChangedCopies::new(sheet);
+    let process = sheet.processes[index];
+    let lower = outputs_below(&sheet.processes, index);
+    for prompts in 0..=255 {
+        let answer = if prompts & !(process.inputs & lower) != 0 {
+            WRONG_PROMPT
+        } else if is_tied(sheet, index) && prompts != process.prompts() {
+            WRONG_TIE
+        } else {
+            0
+        };
+        copies.add(answer, |s| s.processes[index].prompt_mask = Some(prompts));
+    }
+    copies.changed
+}
+
+/// Whether one of these variables is a prompt input.
+fn is_prompt(sheet: &Sheet, variables: u8) -> bool {
+    let mut processes = sheet.processes.iter();
+    processes.any(|process| process.prompts() & variables != 0)
 }
 
 fn is_tied(sheet: &Sheet, index: usize) -> bool {
@@ -134,14 +168,19 @@ fn input_masks(sheet: &Sheet, index: usize, fits: impl Fn(u32) -> bool) -> Vec<u
 }
 
 /// A variable without an owner, alone and with a wrong automaton behind it. If
-/// its owner was tied, it now has one output less than another: that comes first.
+/// it is a prompt input, no lower process sets it any more: that comes first. If
+/// its owner was tied, it now has one output less than another: that is next.
 pub fn owner_faults(sheet: &Sheet) -> Vec<ChangedSheet> {
     let mut copies = ChangedCopies::new(sheet);
     for variable in sheet.environment..sheet.variables {
         let owns = |index: &usize| sheet.processes[*index].outputs >> variable & 1 == 1;
         let mut owners = (0..sheet.processes.len()).filter(owns);
         let tied = owners.any(|owner| is_tied(sheet, owner));
-        let wrong = if tied { WRONG_TIE } else { WRONG_COMPOSITION };
+        let wrong = match (is_prompt(sheet, 1 << variable), tied) {
+            (true, _) => WRONG_PROMPT,
+            (_, true) => WRONG_TIE,
+            _ => WRONG_COMPOSITION,
+        };
         let disown = |s: &mut Sheet| {
             for process in &mut s.processes {
                 process.outputs &= !(1 << variable);
@@ -178,7 +217,9 @@ pub fn tie_faults(sheet: &Sheet, index: usize) -> Vec<ChangedSheet> {
         let own_count = sheet.processes[tied].inputs.count_ones();
         let other_count = |count| count <= MOST_INPUTS && count != own_count;
         for inputs in input_masks(sheet, tied, other_count) {
-            copies.add(wrong, |s| s.processes[tied].inputs = inputs);
+            let lost = sheet.processes[tied].prompts() & !inputs != 0;
+            let answer = if lost { WRONG_PROMPT } else { wrong };
+            copies.add(answer, |s| s.processes[tied].inputs = inputs);
         }
     }
     copies.changed
@@ -307,8 +348,8 @@ fn extra_records(sheet: &Sheet, index: usize) -> Vec<(Vec<u8>, Refusal)> {
     ];
     // Before others it would give them other numbers, and ties with them.
     if sheet.ties.is_empty() || index == first_tie || !process_fits {
-        let process = record(RecordKind::Process, &[0, 0, 1]);
-        extra.push((process, answer_if(process_fits)));
+        let processes = [Process::new(0, 0, 1), Process::with_prompts(0, 0, 1, 0)];
+        extra.extend(processes.map(|process| (process.record(), answer_if(process_fits))));
     }
     let ties = sheet.ties.iter().copied().chain([[0, 0]]);
     extra.extend(ties.map(|tie| (record(RecordKind::Tie, &tie), extra_tie(sheet, index, tie))));
@@ -375,6 +416,7 @@ fn answer_without(sheet: &Sheet, index: usize) -> Refusal {
         match (processes, sheet.processes[index - 1].outputs) {
             (1, _) => WRONG_MARK,
             (_, 0) => 0,
+            (_, outputs) if is_prompt(sheet, outputs) => WRONG_PROMPT,
             _ => WRONG_COMPOSITION,
         }
     } else if index <= automaton + sheet.edges.len() {
@@ -394,15 +436,43 @@ fn cut_surplus(before: &[Vec<u8>], surplus: &[u8]) -> Vec<ChangedSheet> {
         .collect()
 }
 
-/// The fifth PR, whole and cut, in a sheet that has four.
+/// A PR and a PM that would be proper, and such with wrong fields.
+const SURPLUS_PROCESSES: [Process; 4] = [
+    Process::new(0, 0, 1),
+    Process::with_prompts(0, 0, 1, 0),
+    Process::new(255, 255, 0),
+    Process::with_prompts(255, 255, 0, 255),
+];
+
+/// The fifth process, whole and cut, in a sheet that has four.
 pub fn fifth_process(sheet: &Sheet) -> Vec<ChangedSheet> {
     assert_eq!(sheet.processes.len(), MOST_PROCESSES);
     let before = &sheet.records()[..=MOST_PROCESSES];
-    let mut sheets = cut_surplus(before, &record(RecordKind::Process, &[0, 0, 1]));
-    sheets.extend(cut_surplus(
-        before,
-        &record(RecordKind::Process, &[255, 255, 0]),
-    ));
+    let surplus = SURPLUS_PROCESSES.iter();
+    surplus
+        .flat_map(|process| cut_surplus(before, &process.record()))
+        .collect()
+}
+
+/// A permitted PM cut off, whatever its fields.
+pub fn cut_prompts(sheet: &Sheet) -> Vec<ChangedSheet> {
+    let records = sheet.records();
+    let mut sheets = Vec::new();
+    for before in 0..sheet.processes.len() {
+        let proper = Process {
+            prompt_mask: Some(0),
+            ..sheet.processes[before]
+        };
+        for process in [proper].iter().chain(&SURPLUS_PROCESSES) {
+            let mut record = process.record();
+            record[..2].copy_from_slice(RecordKind::ProcessWithPrompts.mark());
+            record.truncate(5);
+            sheets.extend((1..=record.len()).map(|length| ChangedSheet {
+                bytes: [&records[..=before].concat(), &record[..length]].concat(),
+                answer: CUT_OFF,
+            }));
+        }
+    }
     sheets
 }
 
@@ -418,10 +488,9 @@ pub fn misplaced_ties(sheet: &Sheet) -> Vec<ChangedSheet> {
         sheets.extend(cut_surplus(&records[..1], &tie));
         sheets.extend(cut_surplus(&records[..first_tie + MOST_TIES], &tie));
     }
-    for process in [[0, 0, 1], [255, 255, 0]] {
-        let process = record(RecordKind::Process, &process);
+    for process in SURPLUS_PROCESSES {
         for ties in 1..=MOST_TIES {
-            sheets.extend(cut_surplus(&records[..first_tie + ties], &process));
+            sheets.extend(cut_surplus(&records[..first_tie + ties], &process.record()));
         }
     }
     sheets

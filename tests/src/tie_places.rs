@@ -10,7 +10,7 @@ use crate::ties::{tie_faults, tied_groups};
 pub const ONLY_FAULT: &str = "only fault of an SY";
 /// Whether a variable without an owner or T would be refused too, behind it.
 pub const BEFORE_COMPOSITION: &str = "15 before 5";
-/// The place of an SY that is refused by its mark or its length, or of a PR.
+/// The place of an SY that is refused by its mark or its length, or of a PR or PM.
 pub const PLACE: &str = "place of a refused SY";
 /// The same where the file ends behind the mark.
 pub const PLACE_OF_MARK: &str = "place of a refused SY, the mark alone";
@@ -38,14 +38,13 @@ impl TiePlace {
         TiePlace::CutOff,
     ];
 
-    /// None if the file is not refused at an SY, or at a PR behind one.
+    /// None if the file is not refused at an SY, or at a process behind one.
     fn of(reading: &Reading) -> Option<Self> {
         let is_at = |kind: RecordKind| reading.mark == kind.mark();
+        let is_process = RecordKind::PROCESSES.into_iter().any(is_at);
         match (reading.refusal?, reading.last?) {
             (CUT_OFF, _) if is_at(RecordKind::Tie) => Some(TiePlace::CutOff),
-            (WRONG_MARK, RecordKind::Tie) if is_at(RecordKind::Process) => {
-                Some(TiePlace::ProcessBehind)
-            }
+            (WRONG_MARK, RecordKind::Tie) if is_process => Some(TiePlace::ProcessBehind),
             (WRONG_MARK, last) if is_at(RecordKind::Tie) => match last {
                 RecordKind::Architecture => Some(TiePlace::BeforeProcesses),
                 RecordKind::Tie => Some(TiePlace::Fourth),

@@ -17,16 +17,18 @@ pub enum TieFault {
     BoundsDiffer,
     InputCountsDiffer,
     OutputCountsDiffer,
+    PromptPlacesDiffer,
 }
 
 impl TieFault {
-    pub const ALL: [TieFault; 6] = [
+    pub const ALL: [TieFault; 7] = [
         TieFault::LeftMissing,
         TieFault::RightMissing,
         TieFault::SameTwice,
         TieFault::BoundsDiffer,
         TieFault::InputCountsDiffer,
         TieFault::OutputCountsDiffer,
+        TieFault::PromptPlacesDiffer,
     ];
 
     fn of(self, processes: &[Process], tie: Tie) -> bool {
@@ -42,6 +44,7 @@ impl TieFault {
             TieFault::BoundsDiffer => differ(|process| process.bound.into()),
             TieFault::InputCountsDiffer => differ(|process| process.inputs.count_ones()),
             TieFault::OutputCountsDiffer => differ(|process| process.outputs.count_ones()),
+            TieFault::PromptPlacesDiffer => differ(|process| process.prompt_places().into()),
         }
     }
 }

@@ -1,14 +1,23 @@
 //! The library's check of a sheet against the independent reading.
 
 use soclethyme_tests::bench_cases::{
-    case_a, case_j, case_s, case_u, proper_cases, refused_cases, SHEET_A, SHEET_S, SHEET_U,
+    case_a, case_j, case_p, case_q, case_s, case_u, proper_cases, refused_cases, SHEET_A, SHEET_P,
+    SHEET_Q, SHEET_S, SHEET_U,
 };
 use soclethyme_tests::edge_kinds::{assert_both_kinds, count_kinds};
 use soclethyme_tests::ffi;
+use soclethyme_tests::prompt_places::{
+    self, assert_prompts, count_prompts, PromptPlace, FIELDS_LEFT,
+};
+use soclethyme_tests::prompts::PromptFault;
 use soclethyme_tests::random_faults;
+use soclethyme_tests::random_prompts;
 use soclethyme_tests::random_sheets::{self, shapes, Shape};
 use soclethyme_tests::random_ties;
-use soclethyme_tests::refusal::{CUT_OFF, SHEET_REFUSALS, WRONG_EDGE, WRONG_MARK};
+use soclethyme_tests::refusal::{
+    CUT_OFF, SHEET_REFUSALS, WRONG_COMPOSITION, WRONG_EDGE, WRONG_MARK, WRONG_PROCESS,
+    WRONG_PROMPT, WRONG_TIE,
+};
 use soclethyme_tests::rng::Rng;
 use soclethyme_tests::sheet::{
     read_sheet, Reading, RecordKind, Sheet, LONGEST_SHEET, MOST_COMPOSED,
@@ -32,6 +41,7 @@ const MIDDLE_SHAPE: Shape = Shape {
 };
 
 const REFUSED_AT_EX: &str = "refused at an EX";
+const REFUSED_AT_PM: &str = "refused at a PM";
 
 /// Holds the library's answer against the independent one.
 fn compare(tally: &mut Tally, bytes: &[u8]) -> u32 {
@@ -50,7 +60,11 @@ fn compare(tally: &mut Tally, bytes: &[u8]) -> u32 {
     if own != 0 && reading.mark == RecordKind::EdgeUnless.mark() {
         tally.count(REFUSED_AT_EX, own);
     }
+    if own != 0 && reading.mark == RecordKind::ProcessWithPrompts.mark() {
+        tally.count(REFUSED_AT_PM, own);
+    }
     count_refusal(tally, &reading);
+    prompt_places::count_refusal(tally, &reading);
     own
 }
 
@@ -83,6 +97,7 @@ fn count_properties(tally: &mut Tally, sheet: &Sheet) {
     tally.count("edges", sheet.edges.len());
     count_kinds(tally, sheet);
     count_ties(tally, sheet);
+    count_prompts(tally, sheet);
     tally.count("length", sheet.bytes().len());
     for process in &sheet.processes {
         tally.count("inputs", process.inputs.count_ones());
@@ -109,6 +124,7 @@ fn assert_properties(tally: &Tally) {
     tally.assert_often("edges", 0..=64, often);
     assert_both_kinds(tally);
     assert_ties(tally);
+    assert_prompts(tally, 5_000);
     tally.assert_often("length", [18, LONGEST_SHEET], often);
     tally.assert_often("inputs", 0..=4, often);
     tally.assert_often("outputs", 0..=8, often);
@@ -133,6 +149,7 @@ fn compare_proper_sheets(tally: &mut Tally, rng: &mut Rng) {
     }
     for _ in 0..200 {
         compare_proper(random_sheets::with_all_records(rng));
+        compare_proper(random_sheets::with_chained_ties(rng));
     }
     assert_properties(&properties);
 }
@@ -153,7 +170,9 @@ fn compare_single_faults(tally: &mut Tally, rng: &mut Rng) {
         compare_made(tally, &single_faults::all_bounds(&sheet));
         for index in 0..shape.processes {
             compare_made(tally, &single_faults::input_sets(&sheet, index));
+            compare_made(tally, &single_faults::prompt_masks(&sheet, index));
         }
+        compare_made(tally, &single_faults::cut_prompts(&sheet));
     }
     for _ in 0..3 {
         let sheet = random_sheets::with_all_records(rng);
@@ -316,6 +335,9 @@ fn check_agrees_on_generated_sheets() {
     let at_ex = [CUT_OFF, WRONG_MARK, WRONG_EDGE];
     tally.assert_often(REFUSED_AT_EX, at_ex, 2_000);
     tally.assert_only(REFUSED_AT_EX, at_ex);
+    let at_pm = [CUT_OFF, WRONG_MARK, WRONG_PROCESS, WRONG_PROMPT];
+    tally.assert_often(REFUSED_AT_PM, at_pm, 2_000);
+    tally.assert_only(REFUSED_AT_PM, at_pm);
 }
 
 /// A tied sheet with a wrong tie, with an SY in a wrong place or cut off, or with
@@ -351,6 +373,58 @@ fn check_agrees_on_ties() {
     tally.assert_often(BEFORE_COMPOSITION, [false, true], often);
 }
 
+const WITHOUT_PROMPTS: &str = "21, and the same sheet with PR alone";
+
+/// A sheet with a wrong prompt input, and perhaps with a wrong tie or a variable
+/// without an owner behind it.
+fn compare_wrong_prompt(tally: &mut Tally, rng: &mut Rng, mut sheet: Sheet) {
+    match rng.below(4) {
+        0 => random_ties::spoil(rng, &mut sheet),
+        1 => sheet.variables = (sheet.variables + 1).min(8),
+        _ => {}
+    }
+    random_prompts::spoil(rng, &mut sheet);
+    if compare(tally, &sheet.bytes()) == WRONG_PROMPT {
+        let answer = compare(tally, &sheet.without_prompts().bytes());
+        tally.count(WITHOUT_PROMPTS, answer);
+    }
+}
+
+/// A sheet with prompt inputs of which one is wrong, with a PM in a wrong place or
+/// cut off, or with any faults.
+fn compare_faulty_prompts(tally: &mut Tally, rng: &mut Rng) {
+    let sheet = random_sheets::with_prompts(rng, 2);
+    match rng.below(4) {
+        0 | 1 => compare_wrong_prompt(tally, rng, sheet),
+        2 => {
+            compare(tally, &random_prompts::misplaced(rng, &sheet));
+        }
+        _ => {
+            compare(tally, &random_faults::changed_sheet(rng, &sheet));
+        }
+    }
+}
+
+#[test]
+fn check_agrees_on_prompts() {
+    let mut tally = Tally::default();
+    let mut rng = Rng::new(SEED);
+    for _ in 0..100_000 {
+        compare_faulty_prompts(&mut tally, &mut rng);
+    }
+    tally.print("sheets with prompt inputs checked");
+
+    let often = 1_000;
+    let faults = PromptFault::ALL.map(|fault| fault as usize);
+    tally.assert_often(prompt_places::ONLY_FAULT, faults, often);
+    let places = PromptPlace::ALL.map(|place| place as usize);
+    tally.assert_often(prompt_places::PLACE, places, often);
+    tally.assert_often(prompt_places::PLACE_OF_MARK, places, often / 10);
+    tally.assert_often(FIELDS_LEFT, 0..=3, often);
+    let behind = [0, WRONG_TIE, WRONG_COMPOSITION];
+    tally.assert_often(WITHOUT_PROMPTS, behind, often);
+}
+
 /// The library and the independent reading both give the stated answer.
 fn assert_answer(name: &str, bytes: &[u8], answer: u32) {
     assert_eq!(ffi::check(bytes), answer, "library, {name}");
@@ -366,11 +440,17 @@ fn bench_case_a_is_read_field_by_field() {
 }
 
 #[test]
-fn bench_cases_s_and_u_are_read_field_by_field() {
-    for (sheet, bytes) in [(case_s(), &SHEET_S[..]), (case_u(), &SHEET_U[..])] {
+fn bench_cases_are_read_field_by_field() {
+    let cases = [
+        (case_s(), &SHEET_S[..]),
+        (case_u(), &SHEET_U[..]),
+        (case_p(Some(0x02)), &SHEET_P[..]),
+        (case_q(0x02), &SHEET_Q[..]),
+    ];
+    for (sheet, bytes) in cases {
         assert_eq!(sheet.bytes(), bytes);
         assert_eq!(read_sheet(bytes), Ok(sheet));
-        assert_answer("case S or U", bytes, 0);
+        assert_answer("a case", bytes, 0);
     }
 }
 

@@ -109,9 +109,29 @@ fn fast_enumeration_agrees_on_input_masks() {
     assert!(found.len() == 29 && found.iter().all(Option::is_some));
 }
 
+/// How many sheets have prompt inputs.
+const WITH_PROMPTS: usize = 1_000;
+
+#[test]
+fn fast_enumeration_agrees_on_prompts() {
+    let mut rng = Rng::new(SEED);
+    let found = (0..WITH_PROMPTS).map(|_| {
+        let sheet = few_choices::with_prompts(&mut rng, 1_000);
+        agreed(sheet)
+    });
+    let (found, none): (Vec<_>, Vec<_>) = found.partition(Option::is_some);
+    let not_first = found.iter().flatten().filter(|found| found.before > 0);
+    assert!(none.len() >= WITH_PROMPTS / 5 && not_first.count() >= WITH_PROMPTS / 5);
+}
+
+/// Beyond so many choices the plain one takes long.
+const MOST_IN_CASES: u64 = 100_000;
+
 #[test]
 fn fast_enumeration_agrees_on_cases() {
-    for (name, sheet) in proper_cases() {
+    let mut cases = proper_cases();
+    cases.retain(|(_, sheet)| choice_count(sheet) <= MOST_IN_CASES);
+    for (name, sheet) in cases {
         let found = agreed(sheet);
         let none = [
             "case B",
@@ -120,6 +140,7 @@ fn fast_enumeration_agrees_on_cases() {
             "case S, one edge more",
             "case U, chained",
             "case U, circular",
+            "case P, ",
         ];
         let expected = !none.iter().any(|none| name.starts_with(none));
         assert_eq!(found.is_some(), expected, "{name}");

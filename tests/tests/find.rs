@@ -2,10 +2,11 @@
 //! buffers between guards, and every lent byte is compared after it.
 
 use soclethyme_tests::bench_cases::{
-    case_a, case_a_unless, case_b, case_c, case_d, case_e, case_f, case_f_unless, case_g, case_h,
-    case_j, case_s, case_s_with_edge, case_u, case_u_circular, case_u_with_tie, refused_cases,
-    ANNOTATION_A, BOOK_A, BOOK_E, REJECTING_0, REJECTING_1, SHEET_A, SHEET_S, SHEET_U, TEXT_A,
-    TEXT_D, TEXT_S, TEXT_S_UNTIED, TEXT_U,
+    case_a, case_a_unless, case_b, case_c, case_chain, case_chain_delayed, case_d, case_e, case_f,
+    case_f_unless, case_g, case_h, case_j, case_p, case_q, case_s, case_s_with_edge, case_u,
+    case_u_circular, case_u_with_tie, refused_cases, ANNOTATION_A, BOOK_A, BOOK_E, REJECTING_0,
+    REJECTING_1, SHEET_A, SHEET_P, SHEET_Q, SHEET_S, SHEET_U, TEXT_A, TEXT_CHAIN, TEXT_D, TEXT_P,
+    TEXT_Q, TEXT_Q_04, TEXT_S, TEXT_S_UNTIED, TEXT_U,
 };
 use soclethyme_tests::book::{layout, LONGEST_BOOK};
 use soclethyme_tests::choices::{self, choice_count, untied_count, FoundChoice};
@@ -17,6 +18,7 @@ use soclethyme_tests::ffi::{self, NEGATIVE, POSITIVE};
 use soclethyme_tests::guarded_buffer::GuardedBuffer;
 use soclethyme_tests::inputs_read::{count_inputs, INPUT_COUNT, READS_ACROSS_GAP, READS_HIGHEST};
 use soclethyme_tests::many_choices::{opening, relay, three_clients, tied_openings};
+use soclethyme_tests::prompt_places::{assert_prompts, count_prompts};
 use soclethyme_tests::proper_sheet::ProperSheet;
 use soclethyme_tests::random_faults;
 use soclethyme_tests::random_sheets::{self, shapes};
@@ -390,6 +392,43 @@ fn finds_agree_on_ties() {
     }
 }
 
+/// How many sheets with prompt inputs are searched.
+const SHEETS_WITH_PROMPTS: u64 = 5_000;
+
+/// Counts what prompt inputs make of a search: read one step later, the first
+/// choice may be another one.
+fn count_delayed(tally: &mut Tally, searched: &SearchedSheet) {
+    let delayed = SearchedSheet::new(searched.proper.sheet.without_prompts());
+    let entries = |searched: &SearchedSheet| searched.found.as_ref().map(|f| f.entries.clone());
+    let (prompt, delayed) = (entries(searched), entries(&delayed));
+    tally.count("none by delay alone", prompt.is_some() && delayed.is_none());
+    tally.count("none by no delay", prompt.is_none() && delayed.is_some());
+    let others = prompt.is_some() && delayed.is_some() && prompt != delayed;
+    tally.count("other tables by delay", others);
+}
+
+#[test]
+fn finds_agree_on_prompts() {
+    let mut tally = Tally::default();
+    let mut rng = Rng::new(SEED);
+    for _ in 0..SHEETS_WITH_PROMPTS {
+        let searched = SearchedSheet::new(few_choices::with_prompts(&mut rng, 20_000));
+        compare(&mut tally, &mut rng, &searched);
+        count_prompts(&mut tally, &searched.proper.sheet);
+        count_delayed(&mut tally, &searched);
+    }
+    tally.print("sheets with prompt inputs searched");
+
+    assert_eq!(tally.total("none"), SHEETS_WITH_PROMPTS);
+    assert_prompts(&tally, SHEETS_WITH_PROMPTS);
+    tally.assert_often("none", [true], SHEETS_WITH_PROMPTS / 4);
+    tally.assert_often("not all zeros", [true], SHEETS_WITH_PROMPTS / 5);
+    tally.assert_often("none by delay alone", [true], SHEETS_WITH_PROMPTS / 50);
+    tally.assert_often("none by no delay", [true], SHEETS_WITH_PROMPTS / 100);
+    tally.assert_often("other tables by delay", [true], SHEETS_WITH_PROMPTS / 50);
+    tally.assert_often("processes", 2..=MOST_PROCESSES, SHEETS_WITH_PROMPTS / 10);
+}
+
 /// How many are drawn that have far more choices without their ties.
 const SHEETS_WITH_MORE: u64 = 2_000;
 
@@ -668,6 +707,38 @@ fn bench_case_u() {
         assert_printed(case_u_with_tie(repeated), TEXT_U);
     }
     assert_eq!(find(case_u_circular()), None);
+}
+
+/// With the prompt input there are tables, and read one step later there are none.
+#[test]
+fn bench_case_p() {
+    assert_eq!(case_p(Some(0x02)).bytes(), SHEET_P);
+    assert_printed(case_p(Some(0x02)), TEXT_P);
+    assert_eq!(find(case_p(Some(0x00))), None);
+    assert_eq!(find(case_p(None)), None);
+    assert_refused_cases("case P", 38);
+}
+
+/// Tables with one prompt input or the other, and none with both or without.
+#[test]
+fn bench_case_q() {
+    assert_eq!(case_q(0x02).bytes(), SHEET_Q);
+    assert_printed(case_q(0x02), TEXT_Q);
+    assert_printed(case_q(0x04), TEXT_Q_04);
+    assert_eq!(find(case_q(0x00)), None);
+    assert_eq!(find(case_q(0x06)), None);
+}
+
+/// Through three processes within the step, of which two can share a table.
+#[test]
+fn bench_case_chain() {
+    for ties in [&[][..], &[[2, 1]]] {
+        assert_printed(case_chain(ties), TEXT_CHAIN);
+    }
+    for delayed in 1..=2 {
+        assert_eq!(find(case_chain_delayed(&[], delayed)), None);
+    }
+    assert_refused_cases("chain", 2);
 }
 
 #[test]

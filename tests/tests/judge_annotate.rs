@@ -2,8 +2,8 @@
 //! input goes to both calls, and every lent number is compared after them.
 
 use soclethyme_tests::bench_cases::{
-    book_s, case_d, case_e, case_f, case_g, case_h, ANNOTATION_A, BOOK_A, BOOK_D, BOOK_E,
-    REJECTING_0, REJECTING_1, SHEET_A, SHEET_S,
+    book_s, case_d, case_e, case_f, case_g, case_h, case_p, case_q, ANNOTATION_A, BOOK_A, BOOK_D,
+    BOOK_E, BOOK_P, BOOK_Q, REJECTING_0, REJECTING_1, SHEET_A, SHEET_P, SHEET_S,
 };
 use soclethyme_tests::book::{book_of, entries};
 use soclethyme_tests::edge_kinds::{assert_both_kinds, count_kinds};
@@ -12,9 +12,12 @@ use soclethyme_tests::ffi::{self, finding_number, NEGATIVE, POSITIVE};
 use soclethyme_tests::guarded_buffer::GuardedBuffer;
 use soclethyme_tests::inputs_read::{count_inputs, INPUT_COUNT, READS_ACROSS_GAP, READS_HIGHEST};
 use soclethyme_tests::joint_counter::{JointCounter, LONGEST_COUNTER};
+use soclethyme_tests::prompt_places::{assert_prompts, count_prompts};
 use soclethyme_tests::proper_sheet::{ProperSheet, SheetAndBook};
 use soclethyme_tests::random_annotations;
-use soclethyme_tests::random_books::{loosed_entries, maybe_wrong_book, with_book, wrong_byte};
+use soclethyme_tests::random_books::{
+    book, loosed_entries, maybe_wrong_book, with_book, wrong_byte,
+};
 use soclethyme_tests::random_faults;
 use soclethyme_tests::random_sheets::{self, any_shape, shapes, Shape};
 use soclethyme_tests::refusal::{
@@ -447,6 +450,64 @@ fn verdicts_agree_on_generated_books() {
     assert_answers(&tally, "annotate");
 }
 
+const SHEETS_WITH_PROMPTS: usize = 12_500;
+const BOOKS_OF_SHEET: usize = 8;
+
+/// With prompt inputs, of any shape or with few choices.
+fn sheet_with_prompts(rng: &mut Rng) -> Sheet {
+    if rng.one_in(4) {
+        return few_choices::with_prompts(rng, 20_000);
+    }
+    loop {
+        let sheet = rejecting_loops::sheet(rng);
+        if sheet.has_prompts() {
+            return sheet;
+        }
+    }
+}
+
+/// What it is if the prompt inputs are read one step later: another annotation,
+/// or a loop for none or none for a loop.
+fn count_delayed(tally: &mut Tally, sheet: &Sheet, graph: &BookGraph) {
+    let delayed = BookGraph::new(&sheet.without_prompts().bytes(), &graph.book);
+    let other = delayed.annotation != graph.annotation;
+    let other_answer = delayed.annotation.is_some() != graph.annotation.is_some();
+    tally.count("another annotation by delay", other && !other_answer);
+    tally.count("another answer by delay", other_answer);
+}
+
+/// Books of sheets with prompt inputs: each annotated, and judged with what was
+/// annotated and with any other annotation.
+#[test]
+fn verdicts_agree_on_prompts() {
+    let mut tally = Tally::default();
+    let mut rng = Rng::new(SEED);
+    for _ in 0..SHEETS_WITH_PROMPTS {
+        let sheet = sheet_with_prompts(&mut rng);
+        count_prompts(&mut tally, &sheet);
+        let proper = ProperSheet::new(sheet);
+        for _ in 0..BOOKS_OF_SHEET {
+            let graph = BookGraph::new(&proper.bytes, &book(&mut rng, &proper));
+            let held = vec![0; graph.vertices() + rng.below(3)];
+            compare(&mut tally, &graph, &held);
+            assert_judged_as_annotated(&mut tally, &graph);
+            count_delayed(&mut tally, &proper.sheet, &graph);
+        }
+    }
+    tally.print("books of sheets with prompt inputs judged and annotated");
+
+    let books = (SHEETS_WITH_PROMPTS * BOOKS_OF_SHEET) as u64;
+    assert_eq!(tally.total("annotate"), books);
+    assert_eq!(tally.total("judge"), 2 * books);
+    assert_prompts(&tally, SHEETS_WITH_PROMPTS as u64);
+    for call in ["annotate", "judge"] {
+        tally.assert_often(call, [POSITIVE, NEGATIVE], books / 10);
+        tally.assert_only(call, [POSITIVE, NEGATIVE]);
+    }
+    tally.assert_often("another annotation by delay", [true], books / 50);
+    tally.assert_often("another answer by delay", [true], 50);
+}
+
 /// Annotated as stated, by the library and here, and judged so too.
 fn assert_annotated(sheet: &[u8], book: &[u8], annotation: &[u16]) {
     let mut tally = Tally::default();
@@ -522,6 +583,29 @@ fn bench_case_s_verdicts() {
         for held in [&[][..], &[0], &[0, BLANK], &[0, BLANK, 7]] {
             assert_eq!(compare(tally, &graph, held), (answer, answer));
         }
+    }
+}
+
+/// The books of P and Q loop with other prompt inputs.
+#[test]
+fn bench_cases_p_and_q_verdicts() {
+    let mut annotation = [BLANK; 16];
+    (annotation[0], annotation[7]) = (0, 0);
+    assert_annotated(&SHEET_P, &BOOK_P, &annotation);
+    let sheets = [
+        (case_p(Some(0x02)), &BOOK_P[..], POSITIVE),
+        (case_p(Some(0x00)), &BOOK_P, NEGATIVE),
+        (case_p(None), &BOOK_P, NEGATIVE),
+        (case_q(0x02), &BOOK_Q, POSITIVE),
+        (case_q(0x00), &BOOK_Q, NEGATIVE),
+        (case_q(0x04), &BOOK_Q, NEGATIVE),
+        (case_q(0x06), &BOOK_Q, NEGATIVE),
+    ];
+    for (sheet, book, answer) in sheets {
+        let graph = BookGraph::new(&sheet.bytes(), book);
+        let held = vec![7; graph.vertices()];
+        let given = compare_annotate(&mut Tally::default(), &graph, &held);
+        assert_eq!(given, answer);
     }
 }
 

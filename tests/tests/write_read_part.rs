@@ -283,7 +283,7 @@ fn compare_maybe_wrong(tally: &mut Tally, rng: &mut Rng) {
 
 /// Improper sheets, with books and tables that would suit the proper ones.
 fn compare_improper_sheets(tally: &mut Tally, rng: &mut Rng) {
-    for _ in 0..40_000 {
+    for _ in 0..50_000 {
         let proper = ProperSheet::new(random_sheets::proper(rng));
         let sheet = random_faults::changed_sheet(rng, &proper.sheet);
         let book = maybe_wrong_book(rng, &proper);

@@ -1,4 +1,4 @@
--- The program reads the first 430 bytes of a sheet and 339 of a book: what it prints for them is the text for the whole files.
+-- The program reads the first 434 bytes of a sheet and 339 of a book: what it prints for them is the text for the whole files.
 use mathlib.Core.Path.{_≡_, refl, ap, _∙_}
 use mathlib.Core.List.{List}
 use Prim.Native.Nat.{ℕ}
@@ -15,7 +15,7 @@ use Rattle.annotate.specs.Printed.{chosenIn, chosenText, printed}
 choice-of : List ℕ → Sheet → Reading Chosen
 choice-of book s = readBook (s .architecture) book then λ c. proper record { sheet = s; choice = c }
 
-chosen-front : (sheet book : List ℕ) → chosenIn (take 430 sheet) (take 339 book) ≡ chosenIn sheet book
+chosen-front : (sheet book : List ℕ) → chosenIn (take 434 sheet) (take 339 book) ≡ chosenIn sheet book
 unfolding chosenIn choice-of _then_
 chosen-front sheet book = ap (λ (k : Reading Sheet). k then choice-of (take 339 book)) (read-prefix sheet) ∙ by (readSheet sheet) refl
   where
@@ -23,6 +23,6 @@ chosen-front sheet book = ap (λ (k : Reading Sheet). k then choice-of (take 339
     by (refused r) e = refl
     by (proper s) e = rw (book-front (s .architecture) book (sheet-proper sheet s e .architecture))
 
-pub whole-files : (sheet book : List ℕ) → printed (take 430 sheet) (take 339 book) ≡ printed sheet book
+pub whole-files : (sheet book : List ℕ) → printed (take 434 sheet) (take 339 book) ≡ printed sheet book
 unfolding printed
 whole-files sheet book = ap chosenText (chosen-front sheet book)

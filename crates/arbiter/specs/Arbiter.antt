@@ -6,7 +6,7 @@ use Rattle.model.specs.Sheet.{Sheet}
 -- the sheet
 unfoldable pub arbiter : Sheet
 arbiter = record {
-  architecture = record { variables = 4; environment = 2; root = 0; processes = record { inputs = 0x03; outputs = 0x0C; bound = 2 } ∷ []; ties = [] };
+  architecture = record { variables = 4; environment = 2; root = 0; processes = record { inputs = 0x03; outputs = 0x0C; bound = 2; prompts = 0x00; prompted = false } ∷ []; ties = [] };
   automaton = record {
     states = 4;
     initial = 0;

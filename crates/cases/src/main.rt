@@ -3,6 +3,7 @@ ghost use Prim.Native.Nat.{_<_};
 
 mod calls;
 mod print;
+mod prompts;
 mod sheets;
 
 use calls::annotate;
@@ -12,6 +13,7 @@ use calls::find;
 use calls::judge;
 use calls::part;
 use calls::reread;
+use prompts::prompts;
 use sheet::CASE_A;
 use sheets::BOOK_A;
 use sheets::BOOK_D;
@@ -235,4 +237,5 @@ fn main() {
     case_s();
     case_u();
     ties();
+    prompts();
 }

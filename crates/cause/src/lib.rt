@@ -41,7 +41,9 @@ fn say_cause(refusal: Refusal) {
         Refusal::SheetTooShort => say(b"the sheet ends within a record, or before EN"),
         Refusal::WrongMark => say(b"a mark may not stand there, or bytes follow EN"),
         Refusal::BadArchitecture => say(b"a field of AR is outside the rules"),
-        Refusal::BadProcess => say(b"a field of a PR is outside the rules, or an output is taken"),
+        Refusal::BadProcess => say(
+            b"a field of a PR or PM is outside the rules, or an output is taken",
+        ),
         Refusal::NoOwnerOrTooMany => say(
             b"a variable has no owner, or there are more than 256 composed states",
         ),
@@ -54,6 +56,9 @@ fn say_cause(refusal: Refusal) {
         Refusal::NoSuchProcess => say(b"there is no process of that number"),
         Refusal::BadTie => say(
             b"an SY names a process that there is not, one process twice, or two that do not match",
+        ),
+        Refusal::BadPrompt => say(
+            b"a prompt input of a PM is no input, or no output of a lower process",
         ),
     }
 }
@@ -73,6 +78,9 @@ fn say_place(number: u32, sheet: &[u8]) {
 // The number of a fault of the sheet itself.
 fn is_of_sheet(number: u32) -> bool {
     if number == 15 {
+        return true;
+    }
+    if number == 21 {
         return true;
     }
     number <= 7

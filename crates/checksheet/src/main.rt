@@ -8,7 +8,7 @@ use libc::STDOUT_FILENO;
 use model::Reply;
 
 // One byte more than the longest proper sheet, so that a byte after EN is seen.
-const ROOM: usize = 430;
+const ROOM: usize = 434;
 
 // The text of a reply, at the front of the buffer: answers its length.
 fn reply_text(text: &mut [u8], reply: Reply) -> usize

@@ -54,13 +54,13 @@ module _ (a : Architecture) where
   pub kinds-open : (i : ℕ) → i < a .processes → Opens (kindsFrom i) (processCodes a i) (kindsFrom (i + 1))
   unfolding rows
   kinds-open i h =
-      rw (process-next (a .inputs) (a .outputs) (a .bounds) (a .processes) i h)
+      rw (process-next (processIn a) (a .processes) i h)
       (opens-codes kindCode (times (getD (a .bounds) i 0) (row (processIn a i))) (rows (drop (i + 1) (processesIn a))))
 
   -- behind all processes
   pub kinds-end : (i : ℕ) → i ≡ a .processes → kindsFrom i ≡ []
   unfolding rows
-  kinds-end i e = rw (e, processes-end (a .inputs) (a .outputs) (a .bounds) (a .processes))
+  kinds-end i e = rw (e, processes-end (processIn a) (a .processes))
 
   -- all entries
   pub entries-few : IsProper a → length (entries (architectureOf a)) ≤ 272

@@ -1,4 +1,4 @@
--- The program reads the first 430 bytes of a file: what it prints for them is the text for the whole file.
+-- The program reads the first 434 bytes of a file: what it prints for them is the text for the whole file.
 use mathlib.Core.Path.{_≡_, ap}
 use mathlib.Core.List.{List}
 use Prim.Native.Nat.{ℕ}
@@ -6,6 +6,6 @@ use lib.ListN.{take}
 use Rattle.model.proofs.Prefix.{read-prefix}
 use Rattle.find.specs.Printed.{sheetText, printed}
 
-pub whole-file : (b : List ℕ) → printed (take 430 b) ≡ printed b
+pub whole-file : (b : List ℕ) → printed (take 434 b) ≡ printed b
 unfolding printed
 whole-file b = ap sheetText (read-prefix b)

@@ -13,7 +13,7 @@ use model::Outcome;
 use sheet::Sheet;
 
 // One byte more than the longest proper sheet, so that a byte after EN is seen.
-const ROOM: usize = 430;
+const ROOM: usize = 434;
 
 // Of a proper sheet: the text of the tables that find put into the book.
 fn choice_text(text: &mut [u8], sheet: Sheet, book: &[u8], annotation: &[u16]) -> usize

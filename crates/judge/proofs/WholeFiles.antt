@@ -1,4 +1,4 @@
--- The program reads the first 430 bytes of a sheet, 339 of a book and 8,192 of an annotation: what it prints for them is the text for the whole files. A book
+-- The program reads the first 434 bytes of a sheet, 339 of a book and 8,192 of an annotation: what it prints for them is the text for the whole files. A book
 -- that is longer than 338 bytes is refused either way, and a judge looks at no number behind those of the vertices, which are at most 4,096.
 use mathlib.Core.Path.{_≡_, refl, sym, ap, _∙_}
 use mathlib.Core.Bool.{Bool, true, false}
@@ -76,7 +76,7 @@ judge-front s b ann good = rw (book-front (s .architecture) b (good .architectur
     by (refused r) e = refl
     by (proper c) e = room-front s c ann good (read-choice (s .architecture) b c e .0 .tables)
 
-judge-files : (sheet book ann : List ℕ) → judgeOf (take 430 sheet) (take 339 book) (take 4096 ann) ≡ judgeOf sheet book ann
+judge-files : (sheet book ann : List ℕ) → judgeOf (take 434 sheet) (take 339 book) (take 4096 ann) ≡ judgeOf sheet book ann
 unfolding judgeOf bookAndRoom judged _then_
 judge-files sheet book ann = rw (read-prefix sheet) (by (readSheet sheet) refl)
   where
@@ -85,6 +85,6 @@ judge-files sheet book ann = rw (read-prefix sheet) (by (readSheet sheet) refl)
     by (refused r) e = refl
     by (proper s) e = judge-front s book ann (sheet-proper sheet s e)
 
-pub whole-files : (sheet book annotation : List ℕ) → printed (take 430 sheet) (take 339 book) (take 8192 annotation) ≡ printed sheet book annotation
+pub whole-files : (sheet book annotation : List ℕ) → printed (take 434 sheet) (take 339 book) (take 8192 annotation) ≡ printed sheet book annotation
 unfolding printed
 whole-files sheet book annotation = rw (words-front 4096 annotation) (ap verdictText (judge-files sheet book (wordsOf annotation)))

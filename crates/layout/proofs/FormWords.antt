@@ -91,12 +91,12 @@ module _ (a : Architecture) where
   form-open i h =
       let own = records i (processIn a i) (getD (a .bounds) i 0) 0 in
       let rest = allRecords (suc i) (drop (suc i) (processesIn a)) in
-      rw (process-next (a .inputs) (a .outputs) (a .bounds) (a .processes) i h, add-one i, append-assoc own rest closing) (opens-codes slotCode own (rest ++ closing))
+      rw (process-next (processIn a) (a .processes) i h, add-one i, append-assoc own rest closing) (opens-codes slotCode own (rest ++ closing))
 
   -- behind all processes
   pub form-closing : (i : ℕ) → i ≡ a .processes → formFrom i ≡ map slotCode closing
   unfolding allRecords
-  form-closing i e = rw (e, processes-end (a .inputs) (a .outputs) (a .bounds) (a .processes))
+  form-closing i e = rw (e, processes-end (processIn a) (a .processes))
 
   -- all words
   pub form-short : IsProper a → length (map slotCode (form (architectureOf a))) ≤ 338

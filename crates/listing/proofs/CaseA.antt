@@ -12,7 +12,7 @@ use Rattle.model.specs.Choice.{rows, entries}
 use Rattle.ties.specs.Leaders.{joinAll, leaders}
 use Rattle.template.specs.Template as template
 use Rattle.text.specs.Rows.{eachProcess, edgesText}
-use Rattle.listing.specs.Listing.{tiesText, twos, threes, total, leading, showText}
+use Rattle.listing.specs.Listing.{processText, tiesText, twos, threes, total, leading, showText}
 
 abbrev textA : List ℕ
 textA =
@@ -30,5 +30,5 @@ textA =
 
 pub shows-a : (readSheet (sheetA 2) then λ s. proper (showText s)) ≡ proper textA
 unfolding readSheet _then_ if count T processLength entries template.digit template.decimalIn template.decimal template.literal template.literals template.behind template.spaced
-    template.variables template.states template.part template.taken template.filled eachProcess edgesText twos threes total from put leaders joinAll leading rows tiesText showText
+    template.variables template.states template.part template.taken template.filled eachProcess edgesText twos threes total from put leaders joinAll leading rows processText tiesText showText
 shows-a = refl

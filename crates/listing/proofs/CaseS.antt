@@ -11,7 +11,7 @@ use Rattle.model.specs.Choice.{rows, entries}
 use Rattle.ties.specs.Leaders.{instead, join, joinAll, leaders}
 use Rattle.template.specs.Template as template
 use Rattle.text.specs.Rows.{eachProcess, edgesText}
-use Rattle.listing.specs.Listing.{tiesText, twos, threes, total, leading, showText}
+use Rattle.listing.specs.Listing.{processText, tiesText, twos, threes, total, leading, showText}
 
 -- 02, request 4: two processes that read nothing and set two variables each, tied
 abbrev sheetS : List ℕ
@@ -35,5 +35,5 @@ textS =
 
 pub shows-s : (readSheet sheetS then λ s. proper (showText s)) ≡ proper textS
 unfolding readSheet _then_ if count T processLength entries template.digit template.decimalIn template.decimal template.literal template.literals template.behind template.spaced
-    template.variables template.states template.part template.taken template.filled eachProcess edgesText twos threes total from put leaders joinAll join instead leading rows tiesText showText
+    template.variables template.states template.part template.taken template.filled eachProcess edgesText twos threes total from put leaders joinAll join instead leading rows processText tiesText showText
 shows-s = refl

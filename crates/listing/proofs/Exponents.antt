@@ -57,12 +57,12 @@ onceFrom a j = leading (drop j (leaders (a .processes) (tiesIn a))) j (drop j (p
 -- before the first
 pub once-all : (a : Architecture) → onceFrom a 0 ≡ once (architectureOf a)
 unfolding architectureOf
-once-all a = rw (processes-length (a .processes) (a .inputs) (a .outputs) (a .bounds))
+once-all a = rw (processes-length (a .processes) (processIn a))
 
 -- behind the last
 pub once-none : (a : Architecture) → IsProper a → (j : ℕ) → j ≡ a .processes → onceFrom a j ≡ []
 unfolding leading
-once-none a z j e = rw (e, processes-end (a .inputs) (a .outputs) (a .bounds) (a .processes), drop-of-length-le (leaders (a .processes) (tiesIn a)) {i = a .processes} (omega (arith, lead a z .long)))
+once-none a z j e = rw (e, processes-end (processIn a) (a .processes), drop-of-length-le (leaders (a .processes) (tiesIn a)) {i = a .processes} (omega (arith, lead a z .long)))
 
 module _ (f : Entry → ℕ) where
   -- ---- of several entries
@@ -95,7 +95,7 @@ module _ (f : Entry → ℕ) where
   unfolding leading rows put if
   total-turn a z j h =
       let ls = leaders (a .processes) (tiesIn a) in
-      rw (process-next (a .inputs) (a .outputs) (a .bounds) (a .processes) j h, add-one j, drop-cons ls j 0 (omega (arith, lead a z .long)))
+      rw (process-next (processIn a) (a .processes) j h, add-one j, drop-cons ls j 0 (omega (arith, lead a z .long)))
       (by (eqb (getD ls j 0) j) (processIn a j) (leading (drop (suc j) ls) (suc j) (drop (suc j) (processesIn a))))
     where
       by : (b : Bool) (p : Process) (ps : List Process) → total f (rows (put b p ps)) ≡ if b (processTotal p) 0 + total f (rows ps)

@@ -1,19 +1,23 @@
 -- The text of a proper sheet fits into 8,192 bytes.
 use mathlib.Core.Path.{refl}
+use mathlib.Core.Bool.{Bool, true, false}
 use mathlib.Core.List.{List, [], _∷_, List·Memᴰ·head, List·Memᴰ·tail}
 use Prim.Native.Nat.{ℕ, _*_, _^_, _<_, _≤_}
+use native.Mathlib.Nat.{le-trans}
 use native.Mathlib.Omega.{arith}
 use lib.Pow.{pow-mono}
 use lib.ListN.{length, length-append}
 use Rattle.model.specs.Ascii.{ascii}
+use Rattle.model.specs.Mask.{if}
 use Rattle.model.specs.Sheet.{Process, Tie, Architecture, Automaton, Sheet, ProperProcess, ProperProcesses, ProperTies, ProperArchitecture, ProperAutomaton, ProperSheet}
 use Rattle.model.specs.Compose.{T}
 use Rattle.model.specs.Choice.{rows, entries}
+use Rattle.model.proofs.ProperSheet.{prompts-few}
 use Rattle.model.proofs.EntriesBound.{rows-short}
 use Rattle.template.proofs.FilledShort.{longest, filled-short}
 use Rattle.text.proofs.RowsShort.{processes-short, edges-short}
 use Rattle.ties.specs.Leaders.{leaders}
-use Rattle.listing.specs.Listing.{frontText, processText, tieText, tiesText, statesText, edLine, exLine, twos, threes, total, once, countsText, showText}
+use Rattle.listing.specs.Listing.{frontText, prText, pmText, processText, tieText, tiesText, statesText, edLine, exLine, twos, threes, total, once, countsText, showText}
 use Rattle.listing.proofs.Exponents.{twos-few, threes-few, total-few}
 use Rattle.listing.proofs.LeadingRows.{leading-has, leading-short}
 
@@ -25,11 +29,37 @@ front-short a g =
     let few : 2 ^ a .environment ≤ 16 = pow-mono {i = a .environment} {j = 4} (f .few-environment) in
     filled-short 2 (ascii "variables #\nenvironment @\nroot @\n") _ (omega (arith, f .few-variables), (omega arith, (omega (arith, f .root-known), tt)))
 
-process-short : {v e : ℕ} → v ≤ 8 → (i : ℕ) (p : Process) (at : ℕ) → i < 4 → ProperProcess v e p → length (processText i p) ≤ 114
-unfolding longest
-process-short {v} few i p at h own =
-    let known : 2 ^ v ≤ 256 = pow-mono {i = v} {j = 8} few in
-    filled-short 2 (ascii "process # reads @ sets @ states #\n") _ (omega arith, (omega (arith, own .inputs-known), (omega (arith, own .outputs-known), (omega (arith, own .few-states), tt))))
+-- its fields have at most 3 digits each
+record Small (v e : ℕ) (p : Process) : Type 0 where
+  own : ProperProcess v e p
+  prompts : p .prompts ≤ p .inputs
+
+process-short : {v e : ℕ} → v ≤ 8 → (i : ℕ) (p : Process) (at : ℕ) → i < 4 → Small v e p → length (processText i p) ≤ 161
+unfolding longest processText if
+process-short {v} {e} few i p at h small = by (p .prompted)
+  where
+    own : ProperProcess v e p
+    own = small .own
+
+    known : 2 ^ v ≤ 256
+    known = pow-mono {i = v} {j = 8} few
+
+    by : (t : Bool) → length (if t (pmText i p) (prText i p)) ≤ 161
+    by true =
+        filled-short 2 (ascii "process # reads @ prompt @ sets @ states #\n") _ (
+          omega arith,
+          (
+            omega (arith, own .inputs-known, known),
+            (
+              omega (arith, own .inputs-known, small .prompts, known),
+              (omega (arith, own .outputs-known, known), (omega (arith, own .few-states), tt)),
+            ),
+          ),
+        )
+    by false =
+        let short : length (prText i p) ≤ 114 = filled-short 2 (ascii "process # reads @ sets @ states #\n") _
+        (omega arith, (omega (arith, own .inputs-known, known), (omega (arith, own .outputs-known, known), (omega (arith, own .few-states), tt)))) in
+        le-trans short (omega arith)
 
 -- a process has a number of one digit
 tie-short : (t : Tie) → t .left < 10 → t .right < 10 → length (tieText t) ≤ 8
@@ -80,7 +110,8 @@ show-short s g =
     (omega (
       arith,
       front-short (s .architecture) a,
-      processes-short (λ i p at. processText i p) 114 4 (process-short (f .few-variables)) 0 (s .architecture .processes) 0 (f .processes-proper) (omega (arith, f .few-processes)),
+      processes-short (λ i p at. processText i p) 161 4 (process-short (f .few-variables)) 0 (s .architecture .processes) 0
+          (λ p m. record { own = f .processes-proper p m; prompts = prompts-few (f .prompts-proper) p m }) (omega (arith, f .few-processes)),
       f .few-processes,
       ties-short (s .architecture .processes) (s .architecture .ties) (f .few-processes) (f .ties-proper),
       f .few-ties,

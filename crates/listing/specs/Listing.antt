@@ -19,10 +19,19 @@ abbrev pub frontText : ℕ → ℕ → ℕ → List ℕ
 frontText variables environment root = filled (ascii "variables #\nenvironment @\nroot @\n") (variables ∷ (2 ^ environment - 1) ∷ root ∷ [])
 
 -- PR: process i
-abbrev pub processText : ℕ → Process → List ℕ
-processText i p = filled (ascii "process # reads @ sets @ states #\n") (i ∷ p .inputs ∷ p .outputs ∷ p .bound ∷ [])
+abbrev pub prText : ℕ → Process → List ℕ
+prText i p = filled (ascii "process # reads @ sets @ states #\n") (i ∷ p .inputs ∷ p .outputs ∷ p .bound ∷ [])
 
--- every PR
+-- PM: process i, with its prompt inputs
+abbrev pub pmText : ℕ → Process → List ℕ
+pmText i p = filled (ascii "process # reads @ prompt @ sets @ states #\n") (i ∷ p .inputs ∷ p .prompts ∷ p .outputs ∷ p .bound ∷ [])
+
+-- either
+unfoldable pub processText : ℕ → Process → List ℕ
+unfolding if
+processText i p = if (p .prompted) (pmText i p) (prText i p)
+
+-- every PR and PM
 abbrev pub processesText : List Process → List ℕ
 processesText ps = eachProcess (λ i p at. processText i p) 0 ps 0
 

@@ -32,7 +32,7 @@ fn put_front(text: &mut [u8], at: usize, a: Architecture) -> usize
     )
 }
 
-// PR: process i.
+// PR or PM: process i.
 fn put_process(text: &mut [u8], at: usize, a: Architecture, i: usize) -> usize
     requires { ⌜ IsProper a ⌝ }
     requires { ⌜ i < a .processes ⌝ }
@@ -41,15 +41,25 @@ fn put_process(text: &mut [u8], at: usize, a: Architecture, i: usize) -> usize
 {
     let inputs = a.inputs_of(i) as usize;
     let outputs = a.outputs_of(i) as usize;
+    let bound = a.bound_of(i);
+    let prompts = a.prompts_of(i) as usize;
+    if a.prompted_of(i) {
+        return put_filled(
+            text,
+            at,
+            b"process # reads @ prompt @ sets @ states #\n",
+            &[i, inputs, prompts, outputs, bound],
+        );
+    }
     put_filled(
         text,
         at,
         b"process # reads @ sets @ states #\n",
-        &[i, inputs, outputs, a.bound_of(i)],
+        &[i, inputs, outputs, bound],
     )
 }
 
-// Every PR.
+// Every PR and PM.
 fn put_processes(text: &mut [u8], start: usize, a: Architecture) -> usize
     requires { ⌜ IsProper a ⌝ }
     requires { ⌜ start + length (spec.processesText (processesIn a)) ≤ length (now text) ⌝ }

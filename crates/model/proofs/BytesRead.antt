@@ -11,8 +11,9 @@ use lib.ListN.{length, drop, length-drop}
 use lib.Seq.{drop-cons}
 use borrow.Author.Tests.{ltb-true, ltb-false, le-ltb, eqb-true, eq-eqb, not-true}
 use Rattle.theory.proofs.Bools.{and-is, or-is}
-use Rattle.model.specs.Reading.{byte, short, marked, edgeMarked, ED, EX}
-use Rattle.model.specs.SheetFile.{edgeMark}
+use Rattle.model.specs.Mask.{if}
+use Rattle.model.specs.Reading.{byte, short, marked, processMarked, edgeMarked, PR, PM, ED, EX}
+use Rattle.model.specs.SheetFile.{processMark, edgeMark}
 use Rattle.model.proofs.ProperSheet.{or-false}
 
 -- w, and then v: what is written so far, and the record behind it
@@ -88,6 +89,20 @@ module _ (b : List ℕ) (i : ℕ) where
         let e₂ : eqb (byte b (i + 1)) y ≡ true = eq-eqb _ _ second in
         let on : marked b i (x ∷ y ∷ []) ≡ true = rw (whole, e₁, e₂) in
         true≢false (sym on ∙ e)
+
+  -- the mark of a process that stands at i, of its kind
+  pub process-mark-stands : processMarked b i ≡ true → drop i b ≡ processMark (marked b i PM) ++ drop (i + 2) b
+  unfolding processMarked processMark if
+  process-mark-stands = by (marked b i PM) refl
+    where
+      by : (prompted : Bool) → marked b i PM ≡ prompted → (marked b i PR || prompted) ≡ true → drop i b ≡ processMark prompted ++ drop (i + 2) b
+      by true m e = mark-stands 0x50 0x4D m
+      by false m e = mark-stands 0x50 0x52 (⊎-elim (λ h. h) (λ h. absurd (true≢false (sym h))) (or-is (marked b i PR) false .0 e))
+
+  -- and one that does not
+  pub process-mark-differs : i + 2 ≤ length b → processMarked b i ≡ false → ¬ ((markAt ≡ PR) ⊎ (markAt ≡ PM))
+  unfolding processMarked
+  process-mark-differs l e h = let n = or-false (marked b i PR) (marked b i PM) e in ⊎-elim (mark-differs 0x50 0x52 l (n .0)) (mark-differs 0x50 0x4D l (n .1)) h
 
   -- the mark of an edge that stands at i, of its kind
   pub edge-mark-stands : edgeMarked b i ≡ true → drop i b ≡ edgeMark (marked b i EX) ++ drop (i + 2) b

@@ -1,5 +1,5 @@
 -- No fault is found in what is proper: each test of a record fails where the record, behind those before it, makes a proper whole.
-use mathlib.Core.Path.{_≡_, refl, sym, ap, subst}
+use mathlib.Core.Path.{_≡_, refl, sym, ap, _∙_, subst}
 use mathlib.Core.Bool.{Bool, true, false, _||_, not}
 use mathlib.Core.List.{List, [], _∷_, _++_, List·Memᴰ, List·Memᴰ·head, List·Memᴰ·tail, List·Memᴰ·not-nil, Memᴰ·append-right}
 use Prim.Native.Nat.{ℕ, _-_, _^_, _≤_, _<_}
@@ -7,12 +7,12 @@ use native.Mathlib.Omega.{arith}
 use lib.Dec.{eqb}
 use borrow.Author.Tests.{le-ltb, lt-leb, ne-eqb, eq-eqb}
 use Rattle.theory.specs.Lists.{Pairwise, before, all, from}
-use Rattle.theory.proofs.ListLaws.{all-is, from-least}
+use Rattle.theory.proofs.ListLaws.{all-is, from-least, turn-last}
 use Rattle.model.specs.Mask.{beyond, count}
-use Rattle.model.specs.Sheet.{Process, Tie, Architecture, Edge, Automaton, withProcess, withTie, withEdge, owned, composedStates, Apart}
+use Rattle.model.specs.Sheet.{Process, Tie, Architecture, Edge, Automaton, withProcess, withTie, withEdge, asPR, owned, composedStates, Apart}
 use Rattle.model.specs.Sheet.{ProperProcess, SameShape, ProperTie, ProperFront, ProperArchitecture, ProperEdge, ProperAutomaton}
-use Rattle.model.specs.Reading.{arFault, taken, fieldFault, prFault, unlike, tieFault, allFault, auFault, edFault}
-use Rattle.model.proofs.ProperSheet.{apart-sym}
+use Rattle.model.specs.Reading.{arFault, taken, fieldFault, prFault, promptFault, unlike, tieFault, allFault, auFault, edFault}
+use Rattle.model.proofs.ProperSheet.{apart-sym, plain-fault}
 use Rattle.model.proofs.RunGraphSteps.{from-below}
 
 -- two tests that fail
@@ -32,7 +32,7 @@ opening-faultless a g =
     (le-ltb (a .variables) (a .environment) (g .environment-known)))
     (not-beyond (a .root) (a .environment) (g .root-known))
 
--- ---- PR
+-- ---- PR, and PM but for its prompt inputs
 fields-faultless : (variables environment : ℕ) (p : Process) → ProperProcess variables environment p → fieldFault variables environment p ≡ false
 unfolding fieldFault
 fields-faultless variables environment p g =
@@ -59,13 +59,22 @@ process-faultless a p g =
     or-off (fields-faultless (a .variables) (a .environment) p (g .processes-proper p (Memᴰ·append-right (a .processes) last)))
     (not-taken (a .processes) p (λ q m. pairwise-across (a .processes) (g .outputs-apart) q p m last))
 
+-- as a PR
+pub plain-faultless : (a : Architecture) (p : Process) → ProperFront (withProcess a (asPR p)) → prFault a p ≡ false
+plain-faultless a p g = sym (plain-fault a p) ∙ process-faultless a (asPR p) g
+
+-- ---- PM
+pub prompt-faultless : (a : Architecture) (p : Process) → ProperFront (withProcess a p) → promptFault (a .processes) p ≡ false
+unfolding withProcess promptFault
+prompt-faultless a p g = let own = turn-last (a .processes) [] (g .prompts-proper) in or-off (ap not (own .prompts-read)) (ap not (own .prompts-lower))
+
 -- ---- SY
 not-different : {m n : ℕ} → m ≡ n → not (eqb m n) ≡ false
 not-different {m} {n} e = ap not (eq-eqb m n e)
 
 not-unlike : (p q : Process) → SameShape p q → unlike p q ≡ false
 unfolding unlike
-not-unlike p q g = or-off (or-off (not-different (g .bounds)) (not-different (g .inputs))) (not-different (g .outputs))
+not-unlike p q g = or-off (or-off (or-off (not-different (g .bounds)) (not-different (g .inputs))) (not-different (g .outputs))) (not-different (g .prompts))
 
 tie-good : (ps : List Process) (t : Tie) → ProperTie ps t → tieFault ps t ≡ false
 unfolding tieFault

@@ -1,6 +1,6 @@
 -- A row that begins with its records up to the first faulty one is refused by that record's number, whatever follows: what stands before is read through.
-use mathlib.Core.Path.{_≡_, refl, ap, _∙_}
-use mathlib.Core.Bool.{Bool, true, false, _&&_, _||_, not, or-true, and-false}
+use mathlib.Core.Path.{_≡_, refl, sym, ap, _∙_}
+use mathlib.Core.Bool.{Bool, true, false, _&&_, _||_, not, or-true, and-false, true≢false}
 use mathlib.Core.Logic.{_⊎_, inl, inr}
 use mathlib.Core.List.{List, [], _∷_, _++_, append-assoc}
 use Prim.Native.Nat.{ℕ, suc, _+_, _-_, _≤_, _<_}
@@ -11,19 +11,19 @@ use lib.ListN.{length}
 use borrow.Author.Tests.{eqb-true, eq-eqb, ne-eqb, lt-ltb}
 use Rattle.theory.proofs.Bools.{and-is}
 use Rattle.model.specs.declared.Refusal.{Refusal}
-use Rattle.model.specs.declared.Refusal.the-variants.{SheetTooShort, WrongMark, BadArchitecture, BadProcess, NoOwnerOrTooMany, BadAutomaton, BadEdge, BadTie}
-use Rattle.model.specs.Sheet.{Process, Tie, Architecture, Edge, Automaton, Sheet, withProcess, withTie, withEdge, ProperFront, ProperArchitecture, ProperAutomaton, ProperSheet}
-use Rattle.model.specs.Reading.{refused, marked, tieMarked, edgeMarked, AR, PR, SY, AU, ED, EX, EN, arFault, prFault, tieFault, allFault, auFault, edFault}
+use Rattle.model.specs.declared.Refusal.the-variants.{SheetTooShort, WrongMark, BadArchitecture, BadProcess, NoOwnerOrTooMany, BadAutomaton, BadEdge, BadTie, BadPrompt}
+use Rattle.model.specs.Sheet.{Process, Tie, Architecture, Edge, Automaton, Sheet, withProcess, withTie, withEdge, asPR, ProperFront, ProperArchitecture, ProperAutomaton, ProperSheet}
+use Rattle.model.specs.Reading.{refused, marked, tieMarked, edgeMarked, AR, SY, AU, ED, EX, EN, arFault, prFault, promptFault, tieFault, allFault, auFault, edFault}
 use Rattle.model.specs.Reading.{readEnd, readAutomaton, readFront, readSheet}
 use Rattle.model.specs.SheetFile.{processBytes, tieBytes, edgeBytes, statesBytes, frontBytes, recordsBytes, sheetBytes, FollowsFront, FollowsEdges}
-use Rattle.model.specs.SheetFile.{Faulty, wrong-first-mark, bad-architecture, wrong-mark-behind-front, bad-process, bad-tie, no-owner-or-too-many, bad-automaton}
+use Rattle.model.specs.SheetFile.{Faulty, wrong-first-mark, bad-architecture, wrong-mark-behind-front, bad-process, bad-prompt, bad-tie, no-owner-or-too-many, bad-automaton}
 use Rattle.model.specs.SheetFile.{wrong-mark-behind-edges, bad-edge, byte-behind-end, BeginsFaulty}
 use Rattle.model.proofs.Refusing.{stop, go, then-refused}
-use Rattle.model.proofs.ProperSheet.{opening-proper, process-more, tie-more, front-whole, no-edge-proper}
+use Rattle.model.proofs.ProperSheet.{opening-proper, process-more, plain-fault, plain-more, tie-more, front-whole, no-edge-proper}
 use Rattle.model.proofs.RecordMore.{edge-more}
-use Rattle.model.proofs.FaultsExact.{or-off, front-faultless}
-use Rattle.model.proofs.RecordAt.{At, behind, length-at, long-enough, marked-at}
-use Rattle.model.proofs.FrontReads.{process-next, opening-next, thenTies, front-through, NoProcess, tie-next, ties-front, front-done}
+use Rattle.model.proofs.FaultsExact.{or-off, plain-faultless, front-faultless}
+use Rattle.model.proofs.RecordAt.{At, behind, length-at, long-enough, marked-at, process-marked-is, written, written-same}
+use Rattle.model.proofs.FrontReads.{tests, process-next, opening-next, thenTies, front-through, NoProcess, tie-next, ties-front, front-done}
 use Rattle.model.proofs.AutomatonReads.{states-next, edge-next}
 use Rattle.model.proofs.SheetReads.{front-refused, automaton-refused, edges-refused, end-refused, end-no-edge}
 
@@ -70,10 +70,11 @@ mark-wrong a (y ∷ z ∷ []) x b e g l n =
     here : At b i (y ∷ z ∷ x)
     here = behind (frontBytes a) (y ∷ z ∷ x) e
 
-    -- no PR may stand there
+    -- no process may stand there
     room : Dec (4 ≤ length (a .processes)) → (ts : List Tie) → a .ties ≡ ts → NoProcess b a
     room (yes h) ts is = let few : length (a .processes) ≤ 4 = g .few-processes in inl (omega arith)
-    room (no h) [] is = inr (inr (marked-at here PR ∙ other-mark (λ q. n (inl (q, omega arith, is)))))
+    room (no h) [] is =
+        inr (inr (process-marked-is here ∙ or-off (other-mark (λ q. n (inl (inl q, omega arith, is)))) (other-mark (λ q. n (inl (inr q, omega arith, is))))))
     room (no h) (t ∷ ts) is = inr (inl (λ none. omega (arith, ap length is, ap length none)))
 
     -- no SY
@@ -118,15 +119,29 @@ end-goes-on s y x b e g =
 architecture-bad : (a : Architecture) (x b : List ℕ) → b ≡ frontBytes a ++ x → a .processes ≡ [] → a .ties ≡ [] → ¬ ProperFront a → readFront b ≡ refused BadArchitecture
 architecture-bad a x b e none untied n = opening-next a x b e ∙ stop BadArchitecture _ (passed (arFault a) (opening-proper a none untied) n)
 
-process-bad : (a : Architecture) (p : Process) (x b : List ℕ) → b ≡ frontBytes a ++ (processBytes p ++ x) → ProperFront a → length (a .processes) < 4 → a .ties ≡ []
-    → ¬ ProperFront (withProcess a p) → readFront b ≡ refused BadProcess
+-- a process behind a proper front is tested
+process-reached : (a : Architecture) (p : Process) (x b : List ℕ) → b ≡ frontBytes a ++ (processBytes p ++ x) → ProperFront a → length (a .processes) < 4 → a .ties ≡ []
+    → {r : Refusal} → tests b a (3 - length (a .processes)) (length (frontBytes a) + length (processBytes p)) (written p) ≡ refused r → readFront b ≡ refused r
 unfolding thenTies
+process-reached a p x b e g few untied f =
+    let k : ℕ = 3 - length (a .processes) in
+    front-through a (processBytes p ++ x) b (suc k) e g untied (omega arith)
+    ∙ then-refused _ (process-next b (length (frontBytes a)) a k p x (behind (frontBytes a) (processBytes p ++ x) e) ∙ f)
+
+process-bad : (a : Architecture) (p : Process) (x b : List ℕ) → b ≡ frontBytes a ++ (processBytes p ++ x) → ProperFront a → length (a .processes) < 4 → a .ties ≡ []
+    → ¬ ProperFront (withProcess a (asPR p)) → readFront b ≡ refused BadProcess
+unfolding written
 process-bad a p x b e g few untied n =
-    let i : ℕ = length (frontBytes a) in
-    front-through a (processBytes p ++ x) b (suc (3 - length (a .processes))) e g untied (omega arith)
-    ∙ then-refused _
-    (process-next b i a (3 - length (a .processes)) p x (behind (frontBytes a) (processBytes p ++ x) e)
-    ∙ stop BadProcess _ (passed (prFault a p) (process-more a p g few) n))
+    let fault : prFault a (written p) ≡ prFault a p = sym (plain-fault a (written p)) ∙ plain-fault a p in
+    process-reached a p x b e g few untied (stop BadProcess _ (fault ∙ passed (prFault a p) (plain-more a p g few) n))
+
+prompt-bad : (a : Architecture) (p : Process) (x b : List ℕ) → b ≡ frontBytes a ++ (processBytes p ++ x) → ProperFront a → length (a .processes) < 4 → a .ties ≡ []
+    → p .prompted ≡ true → ProperFront (withProcess a (asPR p)) → ¬ ProperFront (withProcess a p) → readFront b ≡ refused BadPrompt
+prompt-bad a p x b e g few untied prompted plain n =
+    let none : p .prompted ≡ false → p .prompts ≡ 0 = λ z. absurd (true≢false (sym prompted ∙ z)) in
+    let good : prFault a p ≡ false = plain-faultless a p plain in
+    process-reached a p x b e g few untied
+    (ap (tests b a _ _) (written-same p none) ∙ go BadProcess _ good ∙ stop BadPrompt _ (passed (promptFault (a .processes) p) (λ f. process-more a p g few good f none) n))
 
 tie-bad : (a : Architecture) (t : Tie) (x b : List ℕ) → b ≡ frontBytes a ++ (tieBytes t ++ x) → ProperFront a → 1 ≤ length (a .processes) → length (a .ties) < 3
     → ¬ ProperFront (withTie a t) → readFront b ≡ refused BadTie
@@ -134,7 +149,7 @@ unfolding tieBytes
 tie-bad a t x b e g some few n =
     let i : ℕ = length (frontBytes a) in
     let here : At b i (tieBytes t ++ x) = behind (frontBytes a) (tieBytes t ++ x) e in
-    ties-front a (tieBytes t ++ x) b e g (inr (inr (marked-at here PR))) (suc (2 - length (a .ties))) (omega arith)
+    ties-front a (tieBytes t ++ x) b e g (inr (inr (process-marked-is here))) (suc (2 - length (a .ties))) (omega arith)
     ∙ tie-next b i a (2 - length (a .ties)) t x here some
     ∙ stop BadTie _ (passed (tieFault (a .processes) t) (tie-more a t g few) n)
 
@@ -146,7 +161,7 @@ module _ (a : Architecture) (u : Automaton) (x b : List ℕ) (e : b ≡ frontByt
   states-reached : (r : Refusal) → readAutomaton a b (length (frontBytes a)) ≡ refused r → readSheet b ≡ refused r
   unfolding statesBytes tieMarked
   states-reached r f =
-      automaton-refused b a (length (frontBytes a)) (front-done a (statesBytes u ++ x) b e g (inr (inr (marked-at states-there PR))) (inr (rw (marked-at states-there SY)))) r f
+      automaton-refused b a (length (frontBytes a)) (front-done a (statesBytes u ++ x) b e g (inr (inr (process-marked-is states-there))) (inr (rw (marked-at states-there SY)))) r f
 
   owner-missing : 1 ≤ length (a .processes) → ¬ ProperArchitecture a → readSheet b ≡ refused NoOwnerOrTooMany
   owner-missing some n =
@@ -183,6 +198,9 @@ faulty-refused p rest r (bad-process a q g few untied n) =
     (process-bad a q rest (frontBytes a ++ processBytes q ++ rest) (append-assoc (frontBytes a) (processBytes q) rest) g few untied n)
 faulty-refused p rest r (bad-tie a t g some few n) =
     front-refused (frontBytes a ++ tieBytes t ++ rest) BadTie (tie-bad a t rest (frontBytes a ++ tieBytes t ++ rest) (append-assoc (frontBytes a) (tieBytes t) rest) g some few n)
+faulty-refused p rest r (bad-prompt a q g few untied prompted plain n) =
+    front-refused (frontBytes a ++ processBytes q ++ rest) BadPrompt
+    (prompt-bad a q rest (frontBytes a ++ processBytes q ++ rest) (append-assoc (frontBytes a) (processBytes q) rest) g few untied prompted plain n)
 faulty-refused p rest r (no-owner-or-too-many a u g some n) =
     owner-missing a u rest (frontBytes a ++ statesBytes u ++ rest) (append-assoc (frontBytes a) (statesBytes u) rest) g some n
 faulty-refused p rest r (bad-automaton a u g none n) =

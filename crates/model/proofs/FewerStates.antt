@@ -48,7 +48,7 @@ times-add (suc m) k es = ap (λ (n : ℕ). times n es) (suc-add m k) ∙ ap (λ 
 -- ---- one process
 module _ (p : Process) (some : 1 ≤ p .bound) (m k : ℕ) (whole : m + k ≡ p .bound) where
   low : Process
-  low = record { inputs = p .inputs; outputs = p .outputs; bound = m }
+  low = record { inputs = p .inputs; outputs = p .outputs; bound = m; prompts = p .prompts; prompted = p .prompted }
 
   row-wide : (c : List ℕ) → Fits (row low) c → Fits (row p) c
   unfolding row low may

@@ -1,22 +1,25 @@
 -- What reading the front answers is what the row of bytes is: up to position i it is the writing of the proper records read so far,
 -- and each test of the reader tells what the record at i makes of it.
 use mathlib.Core.Path.{_≡_, refl, ap, _∙_}
-use mathlib.Core.Bool.{true, false, not}
+use mathlib.Core.Bool.{Bool, true, false, not}
+use mathlib.Core.Logic.{⊎-elim}
 use mathlib.Core.List.{List, [], _∷_, _++_}
 use Prim.Native.Nat.{ℕ, zero, suc, _+_, _≤_, _<_}
 use native.Mathlib.Omega.{arith}
 use lib.Dec.{eqb}
 use lib.ListN.{length, length-append, drop}
 use borrow.Author.Tests.{not-true, not-false, eqb-false}
-use Rattle.theory.proofs.Bools.{and-is}
-use Rattle.model.specs.declared.Refusal.the-variants.{SheetTooShort, WrongMark, BadArchitecture, BadProcess, BadTie}
+use Rattle.theory.proofs.Bools.{bool-cases, and-is}
+use Rattle.model.specs.declared.Refusal.the-variants.{SheetTooShort, WrongMark, BadArchitecture, BadProcess, BadTie, BadPrompt}
+use Rattle.model.specs.Mask.{if}
 use Rattle.model.specs.Sheet.{Process, Tie, Architecture, withProcess, withTie, ProperFront}
-use Rattle.model.specs.Reading.{Reading, short, marked, tieMarked, AR, PR, SY, arFault, prFault, tieFault, architectureAt, processAt, tieAt, Front}
-use Rattle.model.specs.Reading.{readProcess, readProcesses, readTie, readTies, readFront}
-use Rattle.model.specs.SheetFile.{processBytes, tieBytes, frontBytes, in-first-mark, in-architecture, in-process, in-tie, wrong-first-mark, bad-architecture, bad-process, bad-tie}
-use Rattle.model.proofs.ProperSheet.{opening-proper, process-more, tie-more}
-use Rattle.model.proofs.FaultsExact.{opening-faultless, process-faultless, tie-faultless}
-use Rattle.model.proofs.BytesRead.{row-longer, drop-mark, drop-two, drop-three, left-short, is-whole, markAt, mark-stands, mark-differs}
+use Rattle.model.specs.Reading.{Reading, byte, short, marked, processMarked, tieMarked, AR, PR, PM, SY, arFault, prFault, promptFault, tieFault}
+use Rattle.model.specs.Reading.{architectureAt, promptsAt, processAt, processSize, tieAt, Front, readProcess, readProcesses, readTie, readTies, readFront}
+use Rattle.model.specs.SheetFile.{processMark, processBytes, tieBytes, frontBytes, in-first-mark, in-architecture, in-process, in-tie}
+use Rattle.model.specs.SheetFile.{wrong-first-mark, bad-architecture, bad-process, bad-prompt, bad-tie}
+use Rattle.model.proofs.ProperSheet.{opening-proper, process-more, no-prompt-fault, plain-more, none-of-PR-at, tie-more}
+use Rattle.model.proofs.FaultsExact.{opening-faultless, plain-faultless, prompt-faultless, tie-faultless}
+use Rattle.model.proofs.BytesRead.{row-longer, drop-mark, drop-two, drop-three, drop-four, left-short, is-whole, markAt, mark-stands, mark-differs, process-mark-stands}
 use Rattle.model.proofs.RecordMore.{front-more, front-tied, front-alone}
 use Rattle.model.proofs.Answered.{Answered, cut, faulty, not-both, tested, branched, followed}
 
@@ -25,47 +28,71 @@ record ProcessesRead (b : List ℕ) (f : Front) : Type 0 where
   good : ProperFront (f .architecture)
   so-far : b ≡ frontBytes (f .architecture) ++ drop (f .end) b
   untied : f .architecture .ties ≡ []
-  ended : length (f .architecture .processes) < 4 → marked b (f .end) PR ≡ false
+  ended : length (f .architecture .processes) < 4 → processMarked b (f .end) ≡ false
 
 -- up to its end the row is the writing of a proper front, and no further process or tie follows
 pub record FrontRead (b : List ℕ) (f : Front) : Type 0 where
   pub good : ProperFront (f .architecture)
   pub so-far : b ≡ frontBytes (f .architecture) ++ drop (f .end) b
-  pub ended : length (f .architecture .processes) < 4 → f .architecture .ties ≡ [] → marked b (f .end) PR ≡ false
+  pub ended : length (f .architecture .processes) < 4 → f .architecture .ties ≡ [] → processMarked b (f .end) ≡ false
   pub tied : length (f .architecture .ties) < 3 → tieMarked (f .architecture) b (f .end) ≡ false
 
 module _ (b : List ℕ) where
-  -- a whole PR at i
-  process-whole : (i : ℕ) → marked b i PR ≡ true → i + 5 ≤ length b → drop i b ≡ processBytes (processAt b i) ++ drop (i + 5) b
-  unfolding processBytes
-  process-whole i e l = mark-stands b i 0x50 0x52 e ∙ ap (λ (x : List ℕ). PR ++ x) (drop-three b i l)
+  -- a whole PR or PM at i
+  process-whole : (i : ℕ) → processMarked b i ≡ true → i + processSize b i ≤ length b → drop i b ≡ processBytes (processAt b i) ++ drop (i + processSize b i) b
+  unfolding processBytes processMark processSize promptsAt if
+  process-whole i e = by (marked b i PM) (process-mark-stands b i e)
+    where
+      by : (t : Bool) → drop i b ≡ processMark t ++ drop (i + 2) b → i + if t 6 5 ≤ length b
+          → drop i b ≡ (processMark t ++ (byte b (i + 2) ∷ byte b (i + 3) ∷ byte b (i + 4) ∷ if t (if t (byte b (i + 5)) 0 ∷ []) [])) ++ drop (i + if t 6 5) b
+      by true m l = m ∙ ap (λ (x : List ℕ). PM ++ x) (drop-four b i l)
+      by false m l = m ∙ ap (λ (x : List ℕ). PR ++ x) (drop-three b i l)
 
-  -- one PR, and then the rest
-  process-answered : (a : Architecture) (i : ℕ) (rest : Reading Front) → ProperFront a → length (a .processes) < 4 → a .ties ≡ [] → b ≡ frontBytes a ++ drop i b → marked b i PR ≡ true
-      → (ProperFront (withProcess a (processAt b i)) → b ≡ frontBytes (withProcess a (processAt b i)) ++ drop (i + 5) b → Answered (ProcessesRead b) b rest)
+  -- where it ends too early, fewer bytes than its fields are left behind the mark
+  process-left : (i : ℕ) → short b i (processSize b i) ≡ true → length (drop (i + 2) b) < if (marked b i PM) 4 3
+  unfolding processSize if
+  process-left i = by (marked b i PM)
+    where
+      by : (t : Bool) → short b i (if t 6 5) ≡ true → length (drop (i + 2) b) < if t 4 3
+      by true s = left-short b i 6 (i + 2) 4 s (omega arith) (omega arith)
+      by false s = left-short b i 5 (i + 2) 3 s (omega arith) (omega arith)
+
+  -- a fault of prompt inputs is one of a PM
+  prompted-at : (lower : List Process) (i : ℕ) → promptFault lower (processAt b i) ≡ true → processAt b i .prompted ≡ true
+  prompted-at lower i f =
+      ⊎-elim (λ e. e) (λ e. absurd (not-both f (no-prompt-fault lower (processAt b i) (none-of-PR-at b i e)))) (bool-cases (processAt b i .prompted))
+
+  -- one PR or PM, and then the rest
+  process-answered : (a : Architecture) (i : ℕ) (rest : Reading Front) → ProperFront a → length (a .processes) < 4 → a .ties ≡ [] → b ≡ frontBytes a ++ drop i b → processMarked b i ≡ true
+      → (ProperFront (withProcess a (processAt b i)) → b ≡ frontBytes (withProcess a (processAt b i)) ++ drop (i + processSize b i) b → Answered (ProcessesRead b) b rest)
       → Answered (ProcessesRead b) b (readProcess a b i rest)
   unfolding readProcess
   process-answered a i rest g few untied e m go =
       let p : Process = processAt b i in
-      let row : i + 5 ≤ length b → b ≡ frontBytes a ++ processBytes p ++ drop (i + 5) b =
-      λ l. row-longer (frontBytes a) (processBytes p) (drop i b) (drop (i + 5) b) b e (process-whole i m l) in
-      tested (ProcessesRead b) b SheetTooShort (short b i 5) _
-      (λ s. cut b (frontBytes a ++ PR ++ drop (i + 2) b) (row-longer (frontBytes a) PR (drop i b) (drop (i + 2) b) b e (mark-stands b i 0x50 0x52 m))
-      (in-process a (drop (i + 2) b) g few untied (left-short b i 5 (i + 2) 3 s (omega arith) (omega arith))))
+      let n : ℕ = processSize b i in
+      let row : short b i n ≡ false → b ≡ frontBytes a ++ processBytes p ++ drop (i + n) b =
+      λ s. row-longer (frontBytes a) (processBytes p) (drop i b) (drop (i + n) b) b e (process-whole i m (is-whole b i n s)) in
+      let mark : List ℕ = processMark (p .prompted) in
+      tested (ProcessesRead b) b SheetTooShort (short b i n) _
+      (λ s. cut b (frontBytes a ++ mark ++ drop (i + 2) b) (row-longer (frontBytes a) mark (drop i b) (drop (i + 2) b) b e (process-mark-stands b i m))
+      (in-process a (p .prompted) (drop (i + 2) b) g few untied (process-left i s)))
       (λ s. tested (ProcessesRead b) b BadProcess (prFault a p) _
-      (λ f. faulty (drop (i + 5) b) (omega arith) (row (is-whole b i 5 s)) (bad-process a p g few untied (λ more. not-both f (process-faultless a p more))))
-      (λ f. go (process-more a p g few f) (rw (front-more a p untied) (row (is-whole b i 5 s)))))
+      (λ f. faulty (drop (i + n) b) (omega arith) (row s) (bad-process a p g few untied (λ more. not-both f (plain-faultless a p more))))
+      (λ f. tested (ProcessesRead b) b BadPrompt (promptFault (a .processes) p) _
+      (λ f′. faulty (drop (i + n) b) (omega arith) (row s)
+      (bad-prompt a p g few untied (prompted-at (a .processes) i f′) (plain-more a p g few f) (λ more. not-both f′ (prompt-faultless a p more))))
+      (λ f′. go (process-more a p g few f f′ (none-of-PR-at b i)) (rw (front-more a p untied) (row s)))))
 
-  -- at most k more PR
+  -- at most k more PR and PM
   processes-answered : (k : ℕ) (a : Architecture) (i : ℕ) → ProperFront a → length (a .processes) + k ≡ 4 → a .ties ≡ [] → b ≡ frontBytes a ++ drop i b
       → Answered (ProcessesRead b) b (readProcesses k a b i)
   unfolding Answered readProcesses withProcess
   processes-answered zero a i g few untied e = record { good = g; so-far = e; untied = untied; ended = λ l. absurd (omega arith) }
   processes-answered (suc k) a i g few untied e =
       let p : Process = processAt b i in
-      branched (ProcessesRead b) b (marked b i PR) _ _
+      branched (ProcessesRead b) b (processMarked b i) _ _
       (λ m. process-answered a i _ g (omega arith) untied e m
-      (λ more next. processes-answered k (withProcess a p) (i + 5) more (omega (arith, length-append (a .processes) (p ∷ []))) untied next))
+      (λ more next. processes-answered k (withProcess a p) (i + processSize b i) more (omega (arith, length-append (a .processes) (p ∷ []))) untied next))
       (λ m. record { good = g; so-far = e; untied = untied; ended = λ l. m })
 
   -- a whole SY at i
@@ -91,7 +118,7 @@ module _ (b : List ℕ) where
 
   -- at most k more SY
   ties-answered : (k : ℕ) (a : Architecture) (i : ℕ) → ProperFront a → length (a .ties) + k ≡ 3 → b ≡ frontBytes a ++ drop i b
-      → (length (a .processes) < 4 → a .ties ≡ [] → marked b i PR ≡ false) → Answered (FrontRead b) b (readTies k a b i)
+      → (length (a .processes) < 4 → a .ties ≡ [] → processMarked b i ≡ false) → Answered (FrontRead b) b (readTies k a b i)
   unfolding Answered readTies withTie tieMarked
   ties-answered zero a i g few e ended = record { good = g; so-far = e; ended = ended; tied = λ l. absurd (omega arith) }
   ties-answered (suc k) a i g few e ended =

@@ -1,5 +1,5 @@
--- Reading goes through AR, the PR and the SY of a proper front, and stops at the first PR or SY that is none.
-use mathlib.Core.Path.{_≡_, refl, sym, ap, ap₂, _∙_}
+-- Reading goes through AR, the PR and PM and the SY of a proper front, and stops at the first process or tie that is none.
+use mathlib.Core.Path.{_≡_, refl, sym, ap, ap₂, _∙_, subst}
 use mathlib.Core.Bool.{true, false, not}
 use mathlib.Core.Logic.{_⊎_, inl, inr}
 use mathlib.Core.List.{List, [], _∷_, _++_, append-nil, append-assoc, List·Memᴰ·head, List·Memᴰ·not-nil, Memᴰ·append-left, Memᴰ·append-right}
@@ -10,34 +10,44 @@ use lib.Dec.{eqb}
 use lib.ListN.{length, length-append}
 use borrow.Author.Tests.{ne-eqb}
 use Rattle.theory.specs.Lists.{Pairwise, empty, before}
-use Rattle.model.specs.declared.Refusal.the-variants.{SheetTooShort, WrongMark, BadArchitecture, BadProcess, BadTie}
+use Rattle.theory.proofs.ListLaws.{turn-front, turn-last}
+use Rattle.model.specs.declared.Refusal.the-variants.{SheetTooShort, WrongMark, BadArchitecture, BadProcess, BadTie, BadPrompt}
 use Rattle.model.specs.Mask.{if}
 use Rattle.model.specs.Sheet.{Process, Tie, Architecture, withProcess, withTie, ProperFront}
-use Rattle.model.specs.Reading.{Reading, refused, proper, short, marked, tieMarked, PR, AR, SY, arFault, prFault, tieFault, architectureAt, Front, refuse_when_else_}
-use Rattle.model.specs.Reading.{readProcess, readProcesses, readTie, readTies, readFront, _then_}
+use Rattle.model.specs.Reading.{Reading, refused, proper, short, marked, processMarked, tieMarked, AR, SY, arFault, prFault, promptFault, tieFault, architectureAt, processSize, Front}
+use Rattle.model.specs.Reading.{readProcess, readProcesses, readTie, readTies, readFront, refuse_when_else_, _then_}
 use Rattle.model.specs.SheetFile.{processBytes, processesBytes, tieBytes, tiesBytes, frontBytes}
 use Rattle.model.proofs.Refusing.{go}
-use Rattle.model.proofs.FaultsExact.{opening-faultless, process-faultless, tie-faultless}
-use Rattle.model.proofs.RecordAt.{At, behind, next, long-enough, marked-at, process-at, tie-at}
+use Rattle.model.proofs.FaultsExact.{opening-faultless, process-faultless, prompt-faultless, tie-faultless}
+use Rattle.model.proofs.RecordAt.{At, behind, next, long-enough, marked-at, process-marked-is, process-marked-at, process-size-at, process-opens, process-long, written, written-same, process-at, tie-at}
 
 module _ (b : List ℕ) where
-  -- ---- one PR
-  -- a whole one is tested, and then the next is read
+  -- ---- one PR or PM
+  -- what is tested and read of a whole one
+  abbrev pub tests : Architecture → ℕ → ℕ → Process → Reading Front
+  tests a k next p =
+      refuse BadProcess when prFault a p else
+      refuse BadPrompt when promptFault (a .processes) p else
+      readProcesses k (withProcess a p) b next
+
+  -- it is tested, and then the next is read
   pub process-next : (i : ℕ) (a : Architecture) (k : ℕ) (p : Process) (x : List ℕ) → At b i (processBytes p ++ x)
-      → readProcesses (suc k) a b i ≡ refuse_when_else_ BadProcess (prFault a p) (readProcesses k (withProcess a p) b (i + 5))
-  unfolding readProcesses readProcess processBytes if refuse_when_else_
+      → readProcesses (suc k) a b i ≡ tests a k (i + length (processBytes p)) (written p)
+  unfolding readProcesses readProcess if refuse_when_else_
   process-next i a k p x h =
-      let mark : marked b i PR ≡ true = marked-at h PR in
-      let whole : short b i 5 ≡ false = long-enough h 5 (omega arith) in
-      rw (mark, whole) (ap (λ (q : Process). refuse_when_else_ BadProcess (prFault a q) (readProcesses k (withProcess a q) b (i + 5))) (process-at p x h))
+      let opened = process-opens p x h in
+      let mark : processMarked b i ≡ true = process-marked-at (p .prompted) _ opened in
+      let size : processSize b i ≡ length (processBytes p) = process-size-at (p .prompted) _ opened ∙ sym (process-long p) in
+      let whole : short b i (length (processBytes p)) ≡ false = long-enough h (length (processBytes p)) (omega (arith, length-append (processBytes p) x)) in
+      rw (mark, size, whole) (ap (tests a k (i + length (processBytes p))) (process-at p x h))
 
   -- one that ends too early
-  pub process-short : (i : ℕ) (a : Architecture) (k : ℕ) → marked b i PR ≡ true → short b i 5 ≡ true → readProcesses (suc k) a b i ≡ refused SheetTooShort
+  pub process-short : (i : ℕ) (a : Architecture) (k : ℕ) → processMarked b i ≡ true → short b i (processSize b i) ≡ true → readProcesses (suc k) a b i ≡ refused SheetTooShort
   unfolding readProcesses readProcess if refuse_when_else_
   process-short i a k mark e = rw (mark, e)
 
   -- none
-  pub no-process : (i : ℕ) (a : Architecture) (k : ℕ) → marked b i PR ≡ false → readProcesses k a b i ≡ proper record { architecture = a; end = i }
+  pub no-process : (i : ℕ) (a : Architecture) (k : ℕ) → processMarked b i ≡ false → readProcesses k a b i ≡ proper record { architecture = a; end = i }
   unfolding readProcesses if
   no-process i a zero mark = refl
   no-process i a (suc k) mark = rw mark
@@ -63,6 +73,7 @@ fewer-proper a ps untied g = record {
   few-processes = omega (arith, g .few-processes, length-append (a .processes) ps);
   processes-proper = λ p m. g .processes-proper p (Memᴰ·append-left ps m);
   outputs-apart = pairwise-left (a .processes) ps (g .outputs-apart);
+  prompts-proper = turn-front (a .processes) ps (g .prompts-proper);
   few-ties = g .few-ties;
   ties-proper = rw untied (λ t m. absurd (List·Memᴰ·not-nil m));
 }
@@ -80,17 +91,22 @@ one-then-more a p ps = λ j. record { variables = a .variables; environment = a 
 -- all of them, with room for k more
 processes-through : (b : List ℕ) (ps : List Process) (k : ℕ) (a : Architecture) (i : ℕ) (x : List ℕ) → At b i (processesBytes ps ++ x) → a .ties ≡ [] → ProperFront (withProcesses a ps)
     → readProcesses (length ps + k) a b i ≡ readProcesses k (withProcesses a ps) b (i + length (processesBytes ps))
-unfolding processesBytes processBytes withProcess
+unfolding processesBytes withProcess
 processes-through b [] k a i x h untied g = rw (zero-add k, add-zero i, none-more a)
 processes-through b (p ∷ ps) k a i x h untied g =
-    let rest : At b (i + 5) (processesBytes ps ++ x) = next (processBytes p) (processesBytes ps ++ x) h in
+    let n : ℕ = length (processBytes p) in
+    let here : At b i (processBytes p ++ (processesBytes ps ++ x)) = subst (At b i) (append-assoc (processBytes p) (processesBytes ps) x) h in
+    let rest : At b (i + n) (processesBytes ps ++ x) = next (processBytes p) (processesBytes ps ++ x) here in
     let g′ : ProperFront (withProcesses (withProcess a p) ps) = rw (one-then-more a p ps) g in
-    let own : prFault a p ≡ false = process-faultless a p (fewer-proper (withProcess a p) ps untied g′) in
+    let own : ProperFront (withProcess a p) = fewer-proper (withProcess a p) ps untied g′ in
+    let same : written p ≡ p = written-same p (turn-last (a .processes) [] (own .prompts-proper) .none-of-PR) in
     ap (λ (n : ℕ). readProcesses n a b i) (suc-add (length ps) k)
-    ∙ process-next b i a (length ps + k) p (processesBytes ps ++ x) h
-    ∙ go BadProcess _ own
-    ∙ processes-through b ps k (withProcess a p) (i + 5) x rest untied g′
-    ∙ ap₂ (λ (c : Architecture) (n : ℕ). readProcesses k c b n) (one-then-more a p ps) (omega arith)
+    ∙ process-next b i a (length ps + k) p (processesBytes ps ++ x) here
+    ∙ ap (tests b a (length ps + k) (i + n)) same
+    ∙ go BadProcess _ (process-faultless a p own)
+    ∙ go BadPrompt _ (prompt-faultless a p own)
+    ∙ processes-through b ps k (withProcess a p) (i + n) x rest untied g′
+    ∙ ap₂ (λ (c : Architecture) (n : ℕ). readProcesses k c b n) (one-then-more a p ps) (omega (arith, length-append (processBytes p) (processesBytes ps)))
 
 -- ---- AR
 -- the architecture before its processes
@@ -131,6 +147,7 @@ untied-proper a g = record {
   few-processes = g .few-processes;
   processes-proper = g .processes-proper;
   outputs-apart = g .outputs-apart;
+  prompts-proper = g .prompts-proper;
   few-ties = omega arith;
   ties-proper = λ t m. absurd (List·Memᴰ·not-nil m);
 }
@@ -198,6 +215,7 @@ fewer-ties a ts g = record {
   few-processes = g .few-processes;
   processes-proper = g .processes-proper;
   outputs-apart = g .outputs-apart;
+  prompts-proper = g .prompts-proper;
   few-ties = omega (arith, g .few-ties, length-append (a .ties) ts);
   ties-proper = λ t m. g .ties-proper t (Memᴰ·append-left ts m);
 }
@@ -232,9 +250,9 @@ ties-through b (t ∷ ts) k a i x h g =
     some own = omega (arith, own .ties-proper t (Memᴰ·append-right (a .ties) (List·Memᴰ·head refl)) .left-known)
 
 -- ---- the whole front
--- no further PR is read: there are four, or a tie stands behind them, or another mark
+-- no further process is read: there are four, or a tie stands behind them, or another mark
 abbrev pub NoProcess : List ℕ → Architecture → Type 0
-NoProcess b a = (length (a .processes) ≡ 4) ⊎ ¬ (a .ties ≡ []) ⊎ (marked b (length (frontBytes a)) PR ≡ false)
+NoProcess b a = (length (a .processes) ≡ 4) ⊎ ¬ (a .ties ≡ []) ⊎ (processMarked b (length (frontBytes a)) ≡ false)
 
 module _ (a : Architecture) (x b : List ℕ) (e : b ≡ frontBytes a ++ x) (g : ProperFront a) (none : NoProcess b a) where
   u : Architecture
@@ -247,16 +265,16 @@ module _ (a : Architecture) (x b : List ℕ) (e : b ≡ frontBytes a ++ x) (g : 
   unfolding u
   whole = e ∙ ap (λ (w : List ℕ). w ++ x) (untied-bytes a) ∙ append-assoc (frontBytes (untie a)) (tiesBytes (a .ties)) x
 
-  -- behind the processes stands no PR that would be read
-  no-mark-there : (length (a .processes) ≡ 4) ⊎ (marked b i PR ≡ false)
+  -- behind the processes stands none that would be read
+  no-mark-there : (length (a .processes) ≡ 4) ⊎ (processMarked b i ≡ false)
   unfolding i u tiesBytes tieBytes
   no-mark-there = by (a .ties) refl none (behind (frontBytes u) (tiesBytes (a .ties) ++ x) whole)
     where
-      by : (ts : List Tie) → a .ties ≡ ts → NoProcess b a → At b i (tiesBytes ts ++ x) → (length (a .processes) ≡ 4) ⊎ (marked b i PR ≡ false)
+      by : (ts : List Tie) → a .ties ≡ ts → NoProcess b a → At b i (tiesBytes ts ++ x) → (length (a .processes) ≡ 4) ⊎ (processMarked b i ≡ false)
       by ts is (inl full) h = inl full
       by [] is (inr (inl tied)) h = absurd (tied is)
-      by [] is (inr (inr mark)) h = inr (ap (λ (c : Architecture). marked b (length (frontBytes c)) PR) (untie-same a is) ∙ mark)
-      by (t ∷ ts) is (inr n) h = inr (marked-at h PR)
+      by [] is (inr (inr mark)) h = inr (ap (λ (c : Architecture). processMarked b (length (frontBytes c))) (untie-same a is) ∙ mark)
+      by (t ∷ ts) is (inr n) h = inr (process-marked-is h)
 
   processes-done : readFront b ≡ readTies 3 u b i
   unfolding thenTies _then_ i u readProcesses
@@ -265,7 +283,7 @@ module _ (a : Architecture) (x b : List ℕ) (e : b ≡ frontBytes a ++ x) (g : 
       few : length (a .processes) ≤ 4
       few = g .few-processes
 
-      by : (length (a .processes) ≡ 4) ⊎ (marked b i PR ≡ false) → readFront b ≡ readTies 3 u b i
+      by : (length (a .processes) ≡ 4) ⊎ (processMarked b i ≡ false) → readFront b ≡ readTies 3 u b i
       by (inl full) = processes-front a (tiesBytes (a .ties) ++ x) b 0 whole g (omega arith)
       by (inr mark) =
           processes-front a (tiesBytes (a .ties) ++ x) b (4 - length (a .processes)) whole g (omega arith)

@@ -3,15 +3,15 @@ use mathlib.Core.Path.{_≡_, refl, sym, ap, _∙_}
 use mathlib.Core.Bool.{Bool, true, false, not, _&&_, _||_, and-true, Bool·not-not}
 use mathlib.Core.Logic.{⊎-elim, ⊎-map, _↔_}
 use mathlib.Core.List.{List, map, List·Memᴰ, List·Memᴰ·append-cases, Memᴰ·append-left, Memᴰ·append-right, Memᴰ·map, Memᴰ·of-map}
-use Prim.Native.Nat.{ℕ, zero, suc, _*_, _/_, _%_, _^_, _<_, min}
+use Prim.Native.Nat.{ℕ, zero, suc, _*_, _/_, _%_, _^_, _<_}
 use native.Mathlib.Nat.{zero-mul, mul-zero, mul-one, one-mul, mul-comm, zero-div, pow-suc, eq-of-mul-eq-mul-left}
-use native.Mathlib.Numerals.{one-add}
 use native.Mathlib.Omega.{arith}
 use lib.Dec.{eqb}
-use lib.Pow.{pow-pos, shr-shr, high-ones}
-use lib.Bits.{bitAnd, and-step, and-shr, and-high, and-comm, and-zero-l}
+use lib.Pow.{pow-pos, high-ones}
+use lib.Bits.{bitAnd, and-step, and-high, and-comm, and-zero-l}
 use borrow.Author.Tests.{eq-eqb, ne-eqb, eqb-true, eqb-false, not-true}
 use Rattle.theory.specs.Lists.{filter, from, one}
+use Rattle.theory.proofs.BitLaws.{digit-suc, digit-and}
 use Rattle.theory.proofs.Bools.{and-is, or-is, bool-cases}
 use Rattle.theory.proofs.ListLaws.{filter-sound, filter-complete, from-has}
 use Rattle.model.specs.Mask.{if, bit, within, share}
@@ -32,12 +32,6 @@ abbrev Differs : Bool → ℕ → ℕ → ℕ → Type 0
 Differs c k m l = (i : ℕ) × (i < k) × (digit m i ≡ 1) × (digit l i ≡ one (not c))
 
 -- ---- a label that does not have c at each variable of m differs at one, and the other way round
-digit-suc : (m i : ℕ) → digit m (suc i) ≡ digit (m / 2) i
-digit-suc m i = ap (λ (x : ℕ). x % 2) (ap (λ (j : ℕ). m / 2 ^ j) (sym (one-add i)) ∙ sym (shr-shr m 1 i))
-
-digit-and : (m l i : ℕ) → digit (bitAnd m l) i ≡ min (digit m i) (digit l i)
-digit-and m l i = ap (λ (x : ℕ). x % 2) (and-shr m l i) ∙ omega (arith, and-step (m / 2 ^ i) (l / 2 ^ i))
-
 -- where no variable above 0 differs, variable 0 does
 lowest : (c : Bool) (k m l : ℕ) → only c m l ≡ false → only c (m / 2) (l / 2) ≡ true → Differs c (suc k) m l
 unfolding one

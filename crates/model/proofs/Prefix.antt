@@ -1,5 +1,5 @@
 -- Reading a sheet looks at no byte behind one more than the longest proper sheet has: who reads that many gets the answer for the whole file.
-use mathlib.Core.Path.{_≡_, refl, sym, ap, _∙_}
+use mathlib.Core.Path.{_≡_, refl, sym, ap, ap₂, _∙_}
 use mathlib.Core.Bool.{Bool, _&&_, _||_, not}
 use mathlib.Core.Logic.{⊎-elim}
 use mathlib.Core.List.{List, [], _∷_}
@@ -11,15 +11,15 @@ use lib.Seq.{getD-take}
 use borrow.Author.Tests.{ltb-true, ltb-false, lt-ltb, le-ltb}
 use Rattle.theory.proofs.Bools.{bool-cases}
 use Rattle.model.specs.declared.Refusal.{Refusal}
-use Rattle.model.specs.declared.Refusal.the-variants.{SheetTooShort, WrongMark, BadArchitecture, BadProcess, NoOwnerOrTooMany, BadAutomaton, BadEdge, BadTie}
+use Rattle.model.specs.declared.Refusal.the-variants.{SheetTooShort, WrongMark, BadArchitecture, BadProcess, NoOwnerOrTooMany, BadAutomaton, BadEdge, BadTie, BadPrompt}
 use Rattle.model.specs.Mask.{if}
 use Rattle.model.specs.Sheet.{Process, Tie, Architecture, Sheet, withProcess, withTie}
-use Rattle.model.specs.Reading.{Reading, refused, proper, byte, short, marked, tieMarked, edgeMarked, EN, EX, ED, AU, SY, PR, refuse_when_else_}
-use Rattle.model.specs.Reading.{AR, arFault, prFault, tieFault, allFault, auFault, edFault, architectureAt, processAt, tieAt, edgeAt, Front}
+use Rattle.model.specs.Reading.{Reading, refused, proper, byte, short, marked, processMarked, tieMarked, edgeMarked, EN, EX, ED, AU, SY, PM, PR, refuse_when_else_}
+use Rattle.model.specs.Reading.{AR, arFault, prFault, promptFault, tieFault, allFault, auFault, edFault, architectureAt, promptsAt, processAt, processSize, tieAt, edgeAt, Front}
 use Rattle.model.specs.Reading.{readEnd, readEdge, readEdges, readAutomaton, readProcess, readProcesses, readTie, readTies, readFront, readSheet, _then_}
 use Rattle.model.specs.SheetFile.{longestSheet}
 use Rattle.model.specs.Calls.{reply, checkOf, findSheet, findOf}
-use Rattle.model.proofs.ProperSheet.{front-read, processes-end}
+use Rattle.model.proofs.ProperSheet.{sizes, front-read, processes-end}
 
 -- ---- equal tests with equal rests are read alike
 infixr 20 alike_when_else_
@@ -99,7 +99,7 @@ module _ (a b : List ℕ) (same : Same a b) where
       then-same (edges-same variables states k (i + 6) (omega arith)) (λ j es. proper (own j ∷ es))
 
   -- AU, then at most 64 edges
-  automaton-same : (u : Architecture) (i : ℕ) → i ≤ 37 → readAutomaton u a i ≡ readAutomaton u b i
+  automaton-same : (u : Architecture) (i : ℕ) → i ≤ 41 → readAutomaton u a i ≡ readAutomaton u b i
   unfolding readAutomaton
   automaton-same u i l =
       let f : Fields i = fields i (omega arith) in
@@ -112,20 +112,25 @@ module _ (a b : List ℕ) (same : Same a b) where
       then-same (edges-same (u .variables) (byte a (i + 2)) 64 (i + 6) (omega arith) ∙ ap (λ (n : ℕ). readEdges (u .variables) n 64 b (i + 6)) (f .second))
       (λ j es. proper record { states = f .second j; initial = f .third j; rejecting = rejecting j; edges = es })
 
-  -- at most k more PR of 5 bytes
-  processes-same : (k : ℕ) (u : Architecture) (i : ℕ) → i + 5 * k ≤ 25 → readProcesses k u a i ≡ readProcesses k u b i
-  unfolding readProcesses readProcess
+  -- at most k more PR and PM, of 6 bytes at most
+  processes-same : (k : ℕ) (u : Architecture) (i : ℕ) → i + 6 * k ≤ 29 → readProcesses k u a i ≡ readProcesses k u b i
+  unfolding readProcesses readProcess processMarked processSize promptsAt
   processes-same zero u i l = refl
   processes-same (suc k) u i l =
       let f : Fields i = fields i (omega arith) in
-      let own : processAt a i ≡ processAt b i = λ j. record { inputs = f .second j; outputs = f .third j; bound = f .fourth j } in
-      unless marked-same i PR (omega arith) read refl else
-      alike SheetTooShort when short-same i 5 (omega arith) else
+      let kind : marked a i PM ≡ marked b i PM = marked-same i PM (omega arith) in
+      let size : processSize a i ≡ processSize b i = λ j. if (kind j) 6 5 in
+      let own : processAt a i ≡ processAt b i =
+      λ j. record { inputs = f .second j; outputs = f .third j; bound = f .fourth j; prompts = if (kind j) (f .fifth j) 0; prompted = kind j } in
+      unless ap₂ (λ (s t : Bool). s || t) (marked-same i PR (omega arith)) kind read refl else
+      alike SheetTooShort when short-same i (processSize a i) (omega (arith, sizes a i .1)) ∙ ap (short b i) size else
       alike BadProcess when ap (prFault u) own else
-      processes-same k (withProcess u (processAt a i)) (i + 5) (omega arith) ∙ ap (λ (p : Process). readProcesses k (withProcess u p) b (i + 5)) own
+      alike BadPrompt when ap (promptFault (u .processes)) own else
+      processes-same k (withProcess u (processAt a i)) (i + processSize a i) (omega (arith, sizes a i .1))
+      ∙ ap₂ (λ (p : Process) (n : ℕ). readProcesses k (withProcess u p) b (i + n)) own size
 
   -- at most k more SY of 4 bytes
-  ties-same : (k : ℕ) (u : Architecture) (i : ℕ) → i + 4 * k ≤ 37 → readTies k u a i ≡ readTies k u b i
+  ties-same : (k : ℕ) (u : Architecture) (i : ℕ) → i + 4 * k ≤ 41 → readTies k u a i ≡ readTies k u b i
   unfolding readTies readTie tieMarked
   ties-same zero u i l = refl
   ties-same (suc k) u i l =
@@ -136,11 +141,11 @@ module _ (a b : List ℕ) (same : Same a b) where
       alike BadTie when ap (tieFault (u .processes)) own else
       ties-same k (withTie u (tieAt a i)) (i + 4) (omega arith) ∙ ap (λ (t : Tie). readTies k (withTie u t) b (i + 4)) own
 
-  -- the processes end within 25 bytes, so that the ties behind them are read alike
+  -- the processes end within 29 bytes, so that the ties behind them are read alike
   tied : List ℕ → Front → Reading Front
   tied x f = readTies 3 (f .architecture) x (f .end)
 
-  tied-same : (m : Reading Front) → ((f : Front) → m ≡ proper f → f .end ≤ 25) → _then_ m (tied a) ≡ _then_ m (tied b)
+  tied-same : (m : Reading Front) → ((f : Front) → m ≡ proper f → f .end ≤ 29) → _then_ m (tied a) ≡ _then_ m (tied b)
   unfolding _then_ tied
   tied-same (refused r) l = refl
   tied-same (proper f) l = ties-same 3 (f .architecture) (f .end) (omega (arith, l f refl))
@@ -158,7 +163,7 @@ module _ (a b : List ℕ) (same : Same a b) where
       ap (λ (m : Reading Front). _then_ m (tied a)) (processes-same 4 (architectureAt a) 5 (omega arith) ∙ ap (λ (u : Architecture). readProcesses 4 u b 5) own)
       ∙ tied-same (readProcesses 4 (architectureAt b) b 5) (λ f e. processes-end 4 (architectureAt b) b 5 f e .0)
 
-  -- a front ends within 37 bytes, so that what is behind it is read alike
+  -- a front ends within 41 bytes, so that what is behind it is read alike
   behind : List ℕ → Front → Reading Sheet
   behind x f = readAutomaton (f .architecture) x (f .end) then λ u. proper record { architecture = f .architecture; automaton = u }
 

@@ -1,5 +1,5 @@
 -- A front that is read is a proper one, and so is a sheet; neither is long.
-use mathlib.Core.Path.{_≡_, refl, sym, ap, subst}
+use mathlib.Core.Path.{_≡_, refl, sym, ap, ap₂, _∙_, subst}
 use mathlib.Core.Bool.{Bool, true, false, _||_, not, true≢false}
 use mathlib.Core.Logic.{_⊎_, inl, inr, ⊎-elim}
 use mathlib.Core.List.{List, [], _∷_, _++_, List·Memᴰ, List·Memᴰ·not-nil, List·Memᴰ·cases-cons, List·Memᴰ·eq-of-singleton, List·Memᴰ·append-cases}
@@ -7,17 +7,17 @@ use Prim.Native.Nat.{ℕ, zero, suc, _+_, _*_, _-_, _^_, _≤_, _<_}
 use native.Mathlib.Omega.{arith}
 use lib.Dec.{eqb, ltb}
 use lib.ListN.{length, length-append, List·getD-append}
-use borrow.Author.Tests.{leb-false, ltb-false, eqb-false, eqb-true, not-false}
+use borrow.Author.Tests.{leb-false, ltb-false, eqb-false, eqb-true, eq-eqb, not-false}
 use Rattle.model.specs.declared.Refusal.{Refusal}
-use Rattle.model.specs.declared.Refusal.the-variants.{SheetTooShort, WrongMark, BadArchitecture, BadProcess, NoOwnerOrTooMany, BadAutomaton, BadEdge, BadTie}
-use lib.Bits.{and-comm}
-use Rattle.theory.specs.Lists.{empty, before, all, from}
-use Rattle.theory.proofs.ListLaws.{all-is, from-has, pairwise-append}
-use Rattle.model.specs.Mask.{if, share, beyond}
-use Rattle.model.specs.Sheet.{Process, Tie, Architecture, Edge, Automaton, Sheet, withProcess, withTie, nobody, processNo, owned, Apart}
-use Rattle.model.specs.Sheet.{ProperProcess, SameShape, ProperTie, ProperFront, ProperArchitecture, ProperEdge, ProperEdges, ProperAutomaton, ProperSheet}
-use Rattle.model.specs.Reading.{Reading, refused, proper, byte, short, marked, tieMarked, edgeMarked, EN, AU, PR, AR, refuse_when_else_, _then_}
-use Rattle.model.specs.Reading.{arFault, taken, fieldFault, prFault, unlike, tieFault, allFault, auFault, edFault, architectureAt, processAt, tieAt, edgeAt, Front}
+use Rattle.model.specs.declared.Refusal.the-variants.{SheetTooShort, WrongMark, BadArchitecture, BadProcess, NoOwnerOrTooMany, BadAutomaton, BadEdge, BadTie, BadPrompt}
+use lib.Bits.{bitAnd, and-comm, and-zero-l, and-le-r}
+use Rattle.theory.specs.Lists.{empty, before, InTurn, done, and-then, all, from}
+use Rattle.theory.proofs.ListLaws.{all-is, from-has, pairwise-append, turn-more}
+use Rattle.model.specs.Mask.{if, within, share, beyond}
+use Rattle.model.specs.Sheet.{Process, Tie, Architecture, Edge, Automaton, Sheet, withProcess, withTie, nobody, processNo, asPR, outputsOf, owned, Apart}
+use Rattle.model.specs.Sheet.{ProperProcess, ProperPrompts, SameShape, ProperTie, ProperFront, ProperArchitecture, ProperEdge, ProperEdges, ProperAutomaton, ProperSheet}
+use Rattle.model.specs.Reading.{Reading, refused, proper, byte, short, marked, processMarked, tieMarked, edgeMarked, EN, AU, PM, AR, refuse_when_else_, _then_}
+use Rattle.model.specs.Reading.{arFault, taken, fieldFault, prFault, promptFault, unlike, tieFault, allFault, auFault, edFault, architectureAt, promptsAt, processAt, processSize, tieAt, edgeAt, Front}
 use Rattle.model.specs.Reading.{readEnd, readEdge, readEdges, readAutomaton, readProcess, readProcesses, readTie, readTies, readFront, readSheet}
 use Rattle.model.specs.SheetFile.{longestSheet}
 
@@ -120,6 +120,7 @@ opening-proper a none untied f =
       few-processes = omega (arith, ap length none);
       processes-proper = rw none (λ p m. absurd (List·Memᴰ·not-nil m));
       outputs-apart = rw none empty;
+      prompts-proper = rw none done;
       few-ties = omega (arith, ap length untied);
       ties-proper = rw untied (λ t m. absurd (List·Memᴰ·not-nil m));
     }
@@ -146,9 +147,17 @@ tie-stays ps p t g = record {
   shape = rw (List·getD-append ps (p ∷ []) nobody (t .left) (g .left-known), List·getD-append ps (p ∷ []) nobody (t .right) (g .right-known)) (g .shape);
 }
 
-pub process-more : (a : Architecture) (p : Process) → ProperFront a → length (a .processes) < 4 → prFault a p ≡ false → ProperFront (withProcess a p)
+-- prompt inputs without a fault
+within-lower : (lower : List Process) (p : Process) → promptFault lower p ≡ false → (p .prompted ≡ false → p .prompts ≡ 0) → ProperPrompts lower p
+unfolding promptFault
+within-lower lower p f none =
+    let h = or-false (not (within (p .prompts) (p .inputs))) (not (within (p .prompts) (outputsOf lower))) f in
+    record { prompts-read = not-false _ (h .0); prompts-lower = not-false _ (h .1); none-of-PR = none }
+
+pub process-more : (a : Architecture) (p : Process) → ProperFront a → length (a .processes) < 4 → prFault a p ≡ false → promptFault (a .processes) p ≡ false
+    → (p .prompted ≡ false → p .prompts ≡ 0) → ProperFront (withProcess a p)
 unfolding withProcess prFault
-process-more a p g few f =
+process-more a p g few f f′ none =
     let h = or-false (fieldFault (a .variables) (a .environment) p) (taken (a .processes) p) f in
     record {
       few-variables = g .few-variables;
@@ -161,9 +170,49 @@ process-more a p g few f =
       outputs-apart =
           pairwise-append (g .outputs-apart) (before (λ q m. absurd (List·Memᴰ·not-nil m)) empty)
           (λ q r i j. subst (λ (x : Process). Apart (q .outputs) (x .outputs)) (sym (List·Memᴰ·eq-of-singleton j)) (not-taken (a .processes) p (h .1) q i));
+      prompts-proper = turn-more (g .prompts-proper) (within-lower (a .processes) p f′ none);
       few-ties = g .few-ties;
       ties-proper = λ t m. tie-stays (a .processes) p t (g .ties-proper t m);
     }
+
+-- prompt inputs are inputs
+pub prompts-few : {lower ps : List Process} → InTurn ProperPrompts lower ps → (p : Process) → List·Memᴰ p ps → p .prompts ≤ p .inputs
+unfolding within
+prompts-few done p m = absurd (List·Memᴰ·not-nil m)
+prompts-few (and-then {x = q} own rest) p m =
+    let all : bitAnd (q .prompts) (q .inputs) ≡ q .prompts = eqb-true _ _ (own .prompts-read) in
+    ⊎-elim (λ (e : p ≡ q). subst (λ (r : Process). r .prompts ≤ r .inputs) (sym e) (omega (arith, and-le-r (q .prompts) (q .inputs))))
+    (λ i. prompts-few rest p i) (List·Memᴰ·cases-cons m)
+
+none-within : (m : ℕ) → within 0 m ≡ true
+unfolding within
+none-within m = eq-eqb (bitAnd 0 m) 0 (and-zero-l m)
+
+-- no prompt input has a fault
+pub no-prompt-fault : (lower : List Process) (p : Process) → p .prompts ≡ 0 → promptFault lower p ≡ false
+unfolding promptFault
+no-prompt-fault lower p none =
+    let off : (m : ℕ) → not (within (p .prompts) m) ≡ false = λ m. ap (λ (n : ℕ). not (within n m)) none ∙ ap not (none-within m) in
+    ap₂ (λ (s t : Bool). s || t) (off (p .inputs)) (off (outputsOf lower))
+
+-- 4 does not look at them
+plain-taken : (ps : List Process) (p : Process) → taken ps (asPR p) ≡ taken ps p
+unfolding taken
+plain-taken [] p = refl
+plain-taken (q ∷ ps) p = ap (λ (t : Bool). share (p .outputs) (q .outputs) || t) (plain-taken ps p)
+
+pub plain-fault : (a : Architecture) (p : Process) → prFault a (asPR p) ≡ prFault a p
+unfolding prFault fieldFault
+plain-fault a p = ap (λ (t : Bool). fieldFault (a .variables) (a .environment) p || t) (plain-taken (a .processes) p)
+
+-- so a process whose other fields have no fault is proper as a PR
+pub plain-more : (a : Architecture) (p : Process) → ProperFront a → length (a .processes) < 4 → prFault a p ≡ false → ProperFront (withProcess a (asPR p))
+plain-more a p g few f = process-more a (asPR p) g few (plain-fault a p ∙ f) (no-prompt-fault (a .processes) (asPR p) refl) (λ e. refl)
+
+-- the record at i has prompt inputs only if it is a PM
+pub none-of-PR-at : (b : List ℕ) (i : ℕ) → processAt b i .prompted ≡ false → processAt b i .prompts ≡ 0
+unfolding promptsAt if
+none-of-PR-at b i e = rw e
 
 -- ---- one tie more
 equal-tests : (m n : ℕ) → not (eqb m n) ≡ false → m ≡ n
@@ -174,7 +223,8 @@ unfolding unlike
 alike p q f =
     let h₁ = or-false _ _ f in
     let h₂ = or-false _ _ (h₁ .0) in
-    record { bounds = equal-tests _ _ (h₂ .0); inputs = equal-tests _ _ (h₂ .1); outputs = equal-tests _ _ (h₁ .1) }
+    let h₃ = or-false _ _ (h₂ .0) in
+    record { bounds = equal-tests _ _ (h₃ .0); inputs = equal-tests _ _ (h₃ .1); outputs = equal-tests _ _ (h₂ .1); prompts = equal-tests _ _ (h₁ .1) }
 
 tie-proper : (ps : List Process) (t : Tie) → tieFault ps t ≡ false → ProperTie ps t
 unfolding tieFault
@@ -194,40 +244,54 @@ tie-more a t g few f = record {
   few-processes = g .few-processes;
   processes-proper = g .processes-proper;
   outputs-apart = g .outputs-apart;
+  prompts-proper = g .prompts-proper;
   few-ties = omega (arith, length-append (a .ties) (t ∷ []));
   ties-proper = λ u m. ⊎-elim (λ i. g .ties-proper u i) (λ i. subst (ProperTie (a .processes)) (sym (List·Memᴰ·eq-of-singleton i)) (tie-proper (a .processes) t f))
       (List·Memᴰ·append-cases (a .ties) m);
 }
 
--- ---- the front: at most k more processes of 5 bytes
+-- ---- the front: at most k more processes, of 6 bytes at most
+pub sizes : (b : List ℕ) (i : ℕ) → (5 ≤ processSize b i) × (processSize b i ≤ 6)
+unfolding processSize if
+sizes b i = by (marked b i PM)
+  where
+    by : (t : Bool) → (5 ≤ if t 6 5) × (if t 6 5 ≤ 6)
+    by true = (omega arith, omega arith)
+    by false = (omega arith, omega arith)
+
 -- where it ends, and that the ties are as they were
-pub processes-end : (k : ℕ) (a : Architecture) (b : List ℕ) (i : ℕ) (f : Front) → readProcesses k a b i ≡ proper f → (f .end ≤ i + 5 * k) × (f .architecture .ties ≡ a .ties)
+pub processes-end : (k : ℕ) (a : Architecture) (b : List ℕ) (i : ℕ) (f : Front) → readProcesses k a b i ≡ proper f → (f .end ≤ i + 6 * k) × (f .architecture .ties ≡ a .ties)
 unfolding readProcesses readProcess withProcess
 processes-end zero a b i f e = let same = same-proper _ f e in (omega (arith, ap (λ (x : Front). x .end) same), ap (λ (x : Front). x .architecture .ties) (sym same))
 processes-end (suc k) a b i f e =
-    by (processes-end k (withProcess a (processAt b i)) b (i + 5) f)
-    (if-cases (marked b i PR) (readProcess a b i (readProcesses k (withProcess a (processAt b i)) b (i + 5))) (proper record { architecture = a; end = i }) e)
+    by (processes-end k (withProcess a (processAt b i)) b (i + processSize b i) f)
+    (if-cases (processMarked b i) (readProcess a b i (readProcesses k (withProcess a (processAt b i)) b (i + processSize b i))) (proper record { architecture = a; end = i }) e)
   where
-    by : (readProcesses k (withProcess a (processAt b i)) b (i + 5) ≡ proper f → (f .end ≤ i + 5 + 5 * k) × (f .architecture .ties ≡ a .ties))
-        → (readProcess a b i (readProcesses k (withProcess a (processAt b i)) b (i + 5)) ≡ proper f) ⊎ (proper record { architecture = a; end = i } ≡ proper f)
-        → (f .end ≤ i + 5 * suc k) × (f .architecture .ties ≡ a .ties)
-    by ih (inl q) = let rest = ih (passes BadProcess (prFault a (processAt b i)) _ (passes SheetTooShort (short b i 5) _ q .1) .1) in (omega (arith, rest .0), rest .1)
+    by : (readProcesses k (withProcess a (processAt b i)) b (i + processSize b i) ≡ proper f → (f .end ≤ i + processSize b i + 6 * k) × (f .architecture .ties ≡ a .ties))
+        → (readProcess a b i (readProcesses k (withProcess a (processAt b i)) b (i + processSize b i)) ≡ proper f) ⊎ (proper record { architecture = a; end = i } ≡ proper f)
+        → (f .end ≤ i + 6 * suc k) × (f .architecture .ties ≡ a .ties)
+    by ih (inl q) =
+        let h₁ = passes SheetTooShort (short b i (processSize b i)) _ q in
+        let h₂ = passes BadProcess (prFault a (processAt b i)) _ (h₁ .1) in
+        let rest = ih (passes BadPrompt (promptFault (a .processes) (processAt b i)) _ (h₂ .1) .1) in
+        (omega (arith, rest .0, sizes b i .1), rest .1)
     by ih (inr q) = let same = same-proper _ f q in (omega (arith, ap (λ (x : Front). x .end) same), ap (λ (x : Front). x .architecture .ties) (sym same))
 
 processes-read : (k : ℕ) (a : Architecture) (b : List ℕ) (i : ℕ) (f : Front) → ProperFront a → length (a .processes) + k ≤ 4 → readProcesses k a b i ≡ proper f → ProperFront (f .architecture)
 unfolding readProcesses readProcess withProcess
 processes-read zero a b i f g few e = subst (λ (x : Front). ProperFront (x .architecture)) (same-proper _ f e) g
 processes-read (suc k) a b i f g few e =
-    by (λ g e. processes-read k (withProcess a (processAt b i)) b (i + 5) f g (omega (arith, length-append (a .processes) (processAt b i ∷ []))) e)
-    (if-cases (marked b i PR) (readProcess a b i (readProcesses k (withProcess a (processAt b i)) b (i + 5))) (proper record { architecture = a; end = i }) e)
+    by (λ g e. processes-read k (withProcess a (processAt b i)) b (i + processSize b i) f g (omega (arith, length-append (a .processes) (processAt b i ∷ []))) e)
+    (if-cases (processMarked b i) (readProcess a b i (readProcesses k (withProcess a (processAt b i)) b (i + processSize b i))) (proper record { architecture = a; end = i }) e)
   where
-    by : (ProperFront (withProcess a (processAt b i)) → readProcesses k (withProcess a (processAt b i)) b (i + 5) ≡ proper f → ProperFront (f .architecture))
-        → (readProcess a b i (readProcesses k (withProcess a (processAt b i)) b (i + 5)) ≡ proper f) ⊎ (proper record { architecture = a; end = i } ≡ proper f)
+    by : (ProperFront (withProcess a (processAt b i)) → readProcesses k (withProcess a (processAt b i)) b (i + processSize b i) ≡ proper f → ProperFront (f .architecture))
+        → (readProcess a b i (readProcesses k (withProcess a (processAt b i)) b (i + processSize b i)) ≡ proper f) ⊎ (proper record { architecture = a; end = i } ≡ proper f)
         → ProperFront (f .architecture)
     by ih (inl q) =
-        let h₁ = passes SheetTooShort (short b i 5) _ q in
+        let h₁ = passes SheetTooShort (short b i (processSize b i)) _ q in
         let h₂ = passes BadProcess (prFault a (processAt b i)) _ (h₁ .1) in
-        ih (process-more a (processAt b i) g (omega arith) (h₂ .0)) (h₂ .1)
+        let h₃ = passes BadPrompt (promptFault (a .processes) (processAt b i)) _ (h₂ .1) in
+        ih (process-more a (processAt b i) g (omega arith) (h₂ .0) (h₃ .0) (none-of-PR-at b i)) (h₃ .1)
     by ih (inr q) = subst (λ (x : Front). ProperFront (x .architecture)) (same-proper _ f q) g
 
 -- at most k more ties of 4 bytes
@@ -250,7 +314,7 @@ ties-read (suc k) a b i f g few e =
     by ih (inr q) = let same = same-proper _ f q in (subst (λ (x : Front). ProperFront (x .architecture)) same g, omega (arith, ap (λ (x : Front). x .end) same))
 
 -- 5 bytes of AR, then at most 4 processes and 3 ties
-pub front-read : (b : List ℕ) (f : Front) → readFront b ≡ proper f → ProperFront (f .architecture) × (f .end ≤ 37)
+pub front-read : (b : List ℕ) (f : Front) → readFront b ≡ proper f → ProperFront (f .architecture) × (f .end ≤ 41)
 unfolding readFront
 front-read b f e =
     let h₁ = passes SheetTooShort (short b 0 2) _ e in

@@ -1,6 +1,6 @@
 -- What reading finds at a place is what is written there: with x from place i on in the row b, the tests and bytes of b at i are those of x.
-use mathlib.Core.Path.{_≡_, refl, sym, ap, _∙_, subst}
-use mathlib.Core.Bool.{Bool, true, false, _&&_}
+use mathlib.Core.Path.{_≡_, refl, sym, ap, ap₂, _∙_, subst}
+use mathlib.Core.Bool.{Bool, true, false, _&&_, _||_}
 use mathlib.Core.List.{List, [], _∷_, _++_, append-assoc}
 use Prim.Native.Nat.{ℕ, _+_, _≤_, _<_}
 use native.Mathlib.Nat.{add-zero}
@@ -10,8 +10,9 @@ use lib.ListN.{length, length-append}
 use lib.Seq.{getD-append-add}
 use borrow.Author.Tests.{lt-ltb, le-ltb}
 use Rattle.model.specs.Sheet.{Process, Tie, Edge}
-use Rattle.model.specs.Reading.{byte, short, marked, edgeMarked, ED, EX, processAt, tieAt, edgeAt}
-use Rattle.model.specs.SheetFile.{processBytes, tieBytes, edgeMark, edgeBytes}
+use Rattle.model.specs.Mask.{if}
+use Rattle.model.specs.Reading.{byte, short, marked, processMarked, edgeMarked, PR, PM, ED, EX, promptsAt, processAt, processSize, tieAt, edgeAt}
+use Rattle.model.specs.SheetFile.{processMark, processBytes, tieBytes, edgeMark, edgeBytes}
 
 -- b has x from place i on
 pub record At (b : List ℕ) (i : ℕ) (x : List ℕ) : Type 0 where
@@ -38,6 +39,35 @@ edge-six e = ap (λ (m : List ℕ). m ++ (e .from ∷ e .to ∷ e .on ∷ e .off
 
 pub edge-long : (e : Edge) → length (edgeBytes e) ≡ 6
 edge-long e = ap length (edge-six e)
+
+-- ---- a process is five bytes or six, and two of them are its mark
+process-mark-two : (prompted : Bool) → processMark prompted ≡ 0x50 ∷ byte (processMark prompted) 1 ∷ []
+unfolding processMark if
+process-mark-two true = refl
+process-mark-two false = refl
+
+pub process-mark-long : (prompted : Bool) → length (processMark prompted) ≡ 2
+process-mark-long prompted = ap length (process-mark-two prompted)
+
+-- what is read of a process that is written: a PR has no prompt inputs
+unfoldable pub written : Process → Process
+written p = record { inputs = p .inputs; outputs = p .outputs; bound = p .bound; prompts = if (p .prompted) (p .prompts) 0; prompted = p .prompted }
+
+pub written-same : (p : Process) → (p .prompted ≡ false → p .prompts ≡ 0) → written p ≡ p
+unfolding written if
+written-same p none = λ j. record { inputs = p .inputs; outputs = p .outputs; bound = p .bound; prompts = mask (p .prompted) refl j; prompted = p .prompted }
+  where
+    mask : (t : Bool) → p .prompted ≡ t → if t (p .prompts) 0 ≡ p .prompts
+    mask true e = refl
+    mask false e = sym (none e)
+
+pub process-long : (p : Process) → length (processBytes p) ≡ if (p .prompted) 6 5
+unfolding processBytes processMark if
+process-long p = by (p .prompted)
+  where
+    by : (t : Bool) → length (processMark t ++ (p .inputs ∷ p .outputs ∷ p .bound ∷ if t (p .prompts ∷ []) [])) ≡ if t 6 5
+    by true = refl
+    by false = refl
 
 -- ---- what stands at i
 module _ {b : List ℕ} {i : ℕ} where
@@ -72,6 +102,10 @@ module _ {b : List ℕ} {i : ℕ} where
   unfolding marked
   no-mark h l m = rw (too-short h 2 l)
 
+  pub no-process-mark : {x : List ℕ} → At b i x → length x < 2 → processMarked b i ≡ false
+  unfolding processMarked
+  no-process-mark h l = rw (no-mark h l PR, no-mark h l PM)
+
   pub no-edge-mark : {x : List ℕ} → At b i x → length x < 2 → edgeMarked b i ≡ false
   unfolding edgeMarked
   no-edge-mark h l = rw (no-mark h l ED, no-mark h l EX)
@@ -85,10 +119,47 @@ module _ {b : List ℕ} {i : ℕ} where
       let whole : short b i 2 ≡ false = long-enough h 2 (omega arith) in
       rw (whole, first, second)
 
-  -- the fields of a PR
-  pub process-at : (p : Process) (x : List ℕ) → At b i (processBytes p ++ x) → processAt b i ≡ p
+  pub process-marked-is : {y z : ℕ} {x : List ℕ} → At b i (y ∷ z ∷ x) → processMarked b i ≡ ((eqb y 0x50 && eqb z 0x52) || (eqb y 0x50 && eqb z 0x4D))
+  unfolding processMarked
+  process-marked-is h = ap₂ (λ (s t : Bool). s || t) (marked-at h PR) (marked-at h PM)
+
+  -- the mark of a process tells its kind
+  pub process-marked-at : (prompted : Bool) (x : List ℕ) → At b i (processMark prompted ++ x) → processMarked b i ≡ true
+  unfolding processMark processMarked if
+  process-marked-at true x h = rw (marked-at h PR, marked-at h PM)
+  process-marked-at false x h = rw (marked-at h PR)
+
+  process-kind-at : (prompted : Bool) (x : List ℕ) → At b i (processMark prompted ++ x) → marked b i PM ≡ prompted
+  unfolding processMark if
+  process-kind-at true x h = marked-at h PM
+  process-kind-at false x h = marked-at h PM
+
+  -- and with it its size
+  pub process-size-at : (prompted : Bool) (x : List ℕ) → At b i (processMark prompted ++ x) → processSize b i ≡ if prompted 6 5
+  unfolding processSize if
+  process-size-at prompted x h = ap (λ (t : Bool). if t 6 5) (process-kind-at prompted x h)
+
+  -- a process opens with it
+  pub process-opens : (p : Process) (x : List ℕ) → At b i (processBytes p ++ x)
+      → At b i (processMark (p .prompted) ++ (p .inputs ∷ p .outputs ∷ p .bound ∷ if (p .prompted) (p .prompts ∷ []) [] ++ x))
   unfolding processBytes
-  process-at p x h = λ j. record { inputs = byte-at h 2 j; outputs = byte-at h 3 j; bound = byte-at h 4 j }
+  process-opens p x h = subst (At b i) (append-assoc (processMark (p .prompted)) (p .inputs ∷ p .outputs ∷ p .bound ∷ if (p .prompted) (p .prompts ∷ []) []) x) h
+
+  -- the fields of a PR or PM
+  pub process-at : (p : Process) (x : List ℕ) → At b i (processBytes p ++ x) → processAt b i ≡ written p
+  unfolding processBytes processMark promptsAt written if
+  process-at p x h = by (p .prompted) h
+    where
+      by : (t : Bool) → At b i ((processMark t ++ (p .inputs ∷ p .outputs ∷ p .bound ∷ if t (p .prompts ∷ []) [])) ++ x)
+          → processAt b i ≡ record { inputs = p .inputs; outputs = p .outputs; bound = p .bound; prompts = if t (p .prompts) 0; prompted = t }
+      by true h =
+          let kind : marked b i PM ≡ true = marked-at h PM in
+          let mask : promptsAt b i ≡ p .prompts = ap (λ (t : Bool). if t (byte b (i + 5)) 0) kind ∙ byte-at h 5 in
+          λ j. record { inputs = byte-at h 2 j; outputs = byte-at h 3 j; bound = byte-at h 4 j; prompts = mask j; prompted = kind j }
+      by false h =
+          let kind : marked b i PM ≡ false = marked-at h PM in
+          let mask : promptsAt b i ≡ 0 = ap (λ (t : Bool). if t (byte b (i + 5)) 0) kind in
+          λ j. record { inputs = byte-at h 2 j; outputs = byte-at h 3 j; bound = byte-at h 4 j; prompts = mask j; prompted = kind j }
 
   -- the fields of an SY
   pub tie-at : (t : Tie) (x : List ℕ) → At b i (tieBytes t ++ x) → tieAt b i ≡ t

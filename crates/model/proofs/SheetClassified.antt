@@ -12,13 +12,13 @@ use Rattle.theory.proofs.Bools.{or-is}
 use Rattle.model.specs.declared.Refusal.{Refusal}
 use Rattle.model.specs.declared.Refusal.the-variants.{SheetTooShort, WrongMark, NoOwnerOrTooMany, BadAutomaton}
 use Rattle.model.specs.Sheet.{Architecture, Automaton, Sheet, ProperFront, ProperArchitecture, ProperSheet}
-use Rattle.model.specs.Reading.{Reading, refused, proper, byte, short, marked, tieMarked, AU, PR, SY}
+use Rattle.model.specs.Reading.{Reading, refused, proper, byte, short, marked, processMarked, tieMarked, AU, SY}
 use Rattle.model.specs.Reading.{allFault, auFault, readEdges, readAutomaton, readFront, readSheet, refuse_when_else_, _then_}
 use Rattle.model.specs.SheetFile.{statesBytes, frontBytes, sheetBytes, Bytes, FollowsFront, Unfinished, BeginsFaulty}
 use Rattle.model.specs.SheetFile.{in-mark-behind-front, in-states, wrong-mark-behind-front, no-owner-or-too-many, bad-automaton}
 use Rattle.model.proofs.ProperSheet.{or-false, no-edge-proper, front-whole}
 use Rattle.model.proofs.FaultsExact.{front-faultless, states-faultless}
-use Rattle.model.proofs.BytesRead.{row-longer, drop-mark, drop-four, left-short, is-whole, markAt, mark-stands, mark-differs}
+use Rattle.model.proofs.BytesRead.{row-longer, drop-mark, drop-four, left-short, is-whole, markAt, mark-stands, mark-differs, process-mark-differs}
 use Rattle.model.proofs.RecordMore.{records-alone, low-byte, high-byte}
 use Rattle.model.proofs.Answered.{Refused, Answered, cut, faulty, not-both, tested, followed}
 use Rattle.model.proofs.FrontClassified.{FrontRead, front-answered}
@@ -46,11 +46,11 @@ module _ (b : List ℕ) (bytes : Bytes b) where
 
   module _ (a : Architecture) (i : ℕ) (g : ProperFront a) (e : b ≡ frontBytes a ++ drop i b) where
     -- a mark that may not stand behind the front
-    not-behind-front : i + 2 ≤ length b → (length (a .processes) < 4 → a .ties ≡ [] → marked b i PR ≡ false) → (length (a .ties) < 3 → tieMarked a b i ≡ false)
+    not-behind-front : i + 2 ≤ length b → (length (a .processes) < 4 → a .ties ≡ [] → processMarked b i ≡ false) → (length (a .ties) < 3 → tieMarked a b i ≡ false)
         → (not (marked b i AU) || eqb (length (a .processes)) 0) ≡ true → ¬ FollowsFront a (markAt b i)
     unfolding tieMarked
     not-behind-front two ended tied t h =
-        ⊎-elim (λ p. mark-differs b i 0x50 0x52 two (ended (p .1) (p .2)) (p .0))
+        ⊎-elim (λ p. process-mark-differs b i two (ended (p .1) (p .2)) (p .0))
         (λ q. ⊎-elim (λ r. mark-differs b i 0x53 0x59 two (no-tie-mark (r .1) (tied (r .2))) (r .0))
         (λ r. ⊎-elim (λ m. mark-differs b i 0x41 0x55 two (not-true _ m) (r .0)) (λ z. omega (arith, r .1, eqb-true (length (a .processes)) 0 z)) (or-is (not (marked b i AU)) _ .0 t))
         q)
@@ -90,7 +90,7 @@ module _ (b : List ℕ) (bytes : Bytes b) where
         (λ es w. w))))
 
     -- AU, then the edges
-    automaton-answered : (length (a .processes) < 4 → a .ties ≡ [] → marked b i PR ≡ false) → (length (a .ties) < 3 → tieMarked a b i ≡ false) → Answered (Completed b a) b (readAutomaton a b i)
+    automaton-answered : (length (a .processes) < 4 → a .ties ≡ [] → processMarked b i ≡ false) → (length (a .ties) < 3 → tieMarked a b i ≡ false) → Answered (Completed b a) b (readAutomaton a b i)
     unfolding readAutomaton
     automaton-answered ended tied =
         tested (Completed b a) b SheetTooShort (short b i 2) _

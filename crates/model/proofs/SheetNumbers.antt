@@ -9,12 +9,12 @@ use lib.ListN.{length}
 use Rattle.theory.specs.Lists.{member}
 use Rattle.theory.proofs.ListLaws.{member-sound}
 use Rattle.model.specs.declared.Refusal.{Refusal}
-use Rattle.model.specs.declared.Refusal.the-variants.{SheetTooShort, WrongMark, BadArchitecture, BadProcess, NoOwnerOrTooMany, BadAutomaton, BadEdge, BadTie}
+use Rattle.model.specs.declared.Refusal.the-variants.{SheetTooShort, WrongMark, BadArchitecture, BadProcess, NoOwnerOrTooMany, BadAutomaton, BadEdge, BadTie, BadPrompt}
 use Rattle.model.specs.Numbers.{number, sheetNumbers}
 use Rattle.model.specs.Mask.{if}
 use Rattle.model.specs.Sheet.{Architecture, withProcess, withTie}
-use Rattle.model.specs.Reading.{Reading, refused, proper, byte, short, marked, tieMarked, edgeMarked, EN, AU, PR, refuse_when_else_, _then_}
-use Rattle.model.specs.Reading.{AR, arFault, prFault, tieFault, allFault, auFault, edFault, architectureAt, processAt, tieAt, edgeAt, readEnd}
+use Rattle.model.specs.Reading.{Reading, refused, proper, byte, short, marked, processMarked, tieMarked, edgeMarked, EN, AU, refuse_when_else_, _then_}
+use Rattle.model.specs.Reading.{AR, arFault, prFault, promptFault, tieFault, allFault, auFault, edFault, architectureAt, processAt, processSize, tieAt, edgeAt, readEnd}
 use Rattle.model.specs.Reading.{readEdge, readEdges, readAutomaton, readProcess, readProcesses, readTie, readTies, readFront, readSheet}
 
 -- ---- the sheet's own numbers
@@ -75,9 +75,11 @@ early-processes : (k : ℕ) (a : Architecture) (b : List ℕ) (i : ℕ) → Earl
 unfolding readProcesses readProcess member
 early-processes zero a b i = early-proper _
 early-processes (suc k) a b i =
-    early-if (marked b i PR) (readProcess a b i (readProcesses k (withProcess a (processAt b i)) b (i + 5))) _
-    (early-refuse SheetTooShort (short b i 5) _ refl
-    (early-refuse BadProcess (prFault a (processAt b i)) _ refl (early-processes k (withProcess a (processAt b i)) b (i + 5))))
+    let next : ℕ = i + processSize b i in
+    early-if (processMarked b i) (readProcess a b i (readProcesses k (withProcess a (processAt b i)) b next)) _
+    (early-refuse SheetTooShort (short b i (processSize b i)) _ refl
+    (early-refuse BadProcess (prFault a (processAt b i)) _ refl
+    (early-refuse BadPrompt (promptFault (a .processes) (processAt b i)) _ refl (early-processes k (withProcess a (processAt b i)) b next))))
     (early-proper _)
 
 early-ties : (k : ℕ) (a : Architecture) (b : List ℕ) (i : ℕ) → Early (readTies k a b i)

@@ -15,7 +15,7 @@ use Rattle.model.specs.Reading.{readEnd, readEdges, readAutomaton, readF
 use Rattle.model.specs.SheetFile.{statesBytes, edgesBytes, frontBytes, automatonBytes, recordsBytes, sheetBytes}
 use Rattle.model.proofs.Refusing.{go}
 use Rattle.model.proofs.FaultsExact.{front-faultless, states-faultless}
-use Rattle.model.proofs.RecordAt.{At, behind, next, length-at, long-enough, marked-at}
+use Rattle.model.proofs.RecordAt.{At, behind, next, length-at, long-enough, marked-at, process-marked-is}
 use Rattle.model.proofs.FrontReads.{front-done}
 use Rattle.model.proofs.AutomatonReads.{havingEdges, states-next, no-edge, edges-through}
 
@@ -84,7 +84,7 @@ records-through s x b k e g room =
     let i : ℕ = length (frontBytes a) in
     let whole : b ≡ frontBytes a ++ (automatonBytes u ++ x) = e ∙ append-assoc (frontBytes a) (automatonBytes u) x in
     let states : At b i (automatonBytes u ++ x) = behind (frontBytes a) _ whole in
-    let front : readFront b ≡ proper record { architecture = a; end = i } = front-done a _ b whole (g .architecture .front) (inr (inr (marked-at states PR))) (inr (rw (marked-at states SY))) in
+    let front : readFront b ≡ proper record { architecture = a; end = i } = front-done a _ b whole (g .architecture .front) (inr (inr (process-marked-is states))) (inr (rw (marked-at states SY))) in
     behind-front b a i front
     ∙ ap (λ (m : Reading Automaton). m then λ w. proper record { architecture = a; automaton = w }) (automaton-through b i k a u x states (g .architecture) (g .automaton) room)
     ∙ gathered s (readEdges (a .variables) (u .states) k b (i + length (automatonBytes u)))

@@ -1,4 +1,4 @@
--- The sizes that 01 prints: a sheet has at most 429 bytes, a book at most 338, a choice at most 272 entries.
+-- The sizes that 01 prints: a sheet has at most 433 bytes, a book at most 338, a choice at most 272 entries.
 use mathlib.Core.Path.{_≡_, refl}
 use mathlib.Core.List.{List, [], _∷_, List·Memᴰ·head, List·Memᴰ·tail}
 use Prim.Native.Nat.{ℕ, suc, _+_, _*_, _≤_}

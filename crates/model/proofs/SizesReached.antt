@@ -1,4 +1,4 @@
--- The sizes that 01 prints are reached, by computation: a proper sheet of 429 bytes whose book has 338, and a choice of it with 272 entries.
+-- The sizes that 01 prints are reached, by computation: a proper sheet of 433 bytes whose book has 338, and a choice of it with 272 entries.
 use mathlib.Core.Path.{_≡_, refl}
 use lib.ListN.{length}
 use Rattle.model.specs.Reading.{proper, readSheet}

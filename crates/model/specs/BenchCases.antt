@@ -1,4 +1,4 @@
--- 01, "Bench cases": their sheets, and the books, annotations and text that are named there; case S of tied processes; and a sheet of the greatest size.
+-- 01, "Bench cases": their sheets, and the books, annotations and text that are named there; case S of tied processes; case P of a prompt input; and a sheet of the greatest size.
 use mathlib.Core.Bool.{Bool, true, false}
 use mathlib.Core.List.{List, [], _∷_, _++_}
 use Prim.Native.Nat.{ℕ}
@@ -49,6 +49,14 @@ tieS = 0x53 ∷ 0x59 ∷ 0x01 ∷ 0x00 ∷ []
 abbrev pub edgeS : List ℕ
 edgeS = 0x45 ∷ 0x44 ∷ 0x00 ∷ 0x01 ∷ 0x04 ∷ 0x00 ∷ []
 
+-- P with this prompt mask: process 0 reads variable 0, of the environment, and process 1 variable 1, of process 0; each step needs variables 0, 1 and 2 all set or all clear
+abbrev pub sheetP : ℕ → List ℕ
+sheetP prompts =
+    0x41 ∷ 0x52 ∷ 0x03 ∷ 0x01 ∷ 0x00 ∷ 0x50 ∷ 0x52 ∷ 0x01 ∷ 0x02 ∷ 0x02 ∷ 0x50 ∷ 0x4D ∷ 0x02 ∷ 0x04 ∷ 0x02 ∷ prompts
+    ∷ 0x41 ∷ 0x55 ∷ 0x02 ∷ 0x00 ∷ 0x02 ∷ 0x00 ∷ 0x45 ∷ 0x44 ∷ 0x00 ∷ 0x00 ∷ 0x00 ∷ 0x00
+    ∷ 0x45 ∷ 0x44 ∷ 0x00 ∷ 0x01 ∷ 0x01 ∷ 0x02 ∷ 0x45 ∷ 0x44 ∷ 0x00 ∷ 0x01 ∷ 0x02 ∷ 0x01 ∷ 0x45 ∷ 0x44 ∷ 0x00 ∷ 0x01 ∷ 0x02 ∷ 0x04
+    ∷ 0x45 ∷ 0x44 ∷ 0x00 ∷ 0x01 ∷ 0x04 ∷ 0x02 ∷ 0x45 ∷ 0x44 ∷ 0x01 ∷ 0x01 ∷ 0x00 ∷ 0x00 ∷ 0x45 ∷ 0x4E ∷ []
+
 -- ---- books and annotations
 -- the entries of A's book: g1 in state 0, g2 in state 1, and each leads to the other
 abbrev pub choiceA : List ℕ
@@ -80,10 +88,20 @@ bookE = 0x54 ∷ 0x42 ∷ 0 ∷ 0 ∷ 0 ∷ 0 ∷ 0x45 ∷ 0x4E ∷ []
 abbrev pub bookS : ℕ → ℕ → List ℕ
 bookS m₀ m₁ = 0x54 ∷ 0x42 ∷ 0 ∷ 0 ∷ m₀ ∷ 0 ∷ 0x54 ∷ 0x42 ∷ 1 ∷ 0 ∷ m₁ ∷ 0 ∷ 0x45 ∷ 0x4E ∷ []
 
+-- P's book: each process puts out what it reads
+abbrev pub bookP : List ℕ
+bookP =
+    0x54 ∷ 0x42 ∷ 0 ∷ 0 ∷ 0 ∷ 0 ∷ 1 ∷ 0x54 ∷ 0x42 ∷ 0 ∷ 1 ∷ 2 ∷ 0 ∷ 1
+    ∷ 0x54 ∷ 0x42 ∷ 1 ∷ 0 ∷ 0 ∷ 0 ∷ 1 ∷ 0x54 ∷ 0x42 ∷ 1 ∷ 1 ∷ 4 ∷ 0 ∷ 1 ∷ 0x45 ∷ 0x4E ∷ []
+
+-- P's annotation: 2 of its 16 vertices are reached, automaton state 0 with all variables clear and with all set
+abbrev pub annotationP : List ℕ
+annotationP = 0 ∷ replicate 6 blank ++ (0 ∷ replicate 8 blank)
+
 -- ---- the greatest sizes
--- four inputs, two outputs and four states
-abbrev full : ℕ → ℕ → Process
-full inputs outputs = record { inputs = inputs; outputs = outputs; bound = 4 }
+-- a PM with four inputs, two outputs and four states
+abbrev full : ℕ → ℕ → ℕ → Process
+full inputs outputs prompts = record { inputs = inputs; outputs = outputs; bound = 4; prompts = prompts; prompted = true }
 
 -- an edge of this kind between the last state and the first, with all variables in its masks
 abbrev wide : Bool → Edge
@@ -93,10 +111,10 @@ wide unless = record { from = 15; to = 0; on = 0x0F; off = 0xF0; unless = unless
 abbrev pub both : ℕ → ℕ → Tie
 both left right = record { left = left; right = right }
 
--- 8 variables, none of the environment; four processes that own two each and read four of the others, tied all; 16 automaton states, 64 edges of both kinds
+-- 8 variables, none of the environment; four processes that own two each and read four of the others, three of them tied, with two prompt inputs each; 16 automaton states, 64 edges of both kinds
 unfoldable pub largest : Sheet
 largest = record {
-  architecture = record { variables = 8; environment = 0; root = 0; processes = full 0x3C 0x03 ∷ full 0xF0 0x0C ∷ full 0xC3 0x30 ∷ full 0x0F 0xC0 ∷ []; ties = both 0 1 ∷ both 3 1 ∷ both 2 3 ∷ [] };
+  architecture = record { variables = 8; environment = 0; root = 0; processes = full 0x3C 0x03 0x00 ∷ full 0x33 0x0C 0x03 ∷ full 0x0F 0x30 0x03 ∷ full 0x3C 0xC0 0x0C ∷ []; ties = both 1 2 ∷ both 3 1 ∷ both 2 3 ∷ [] };
   automaton = record { states = 16; initial = 15; rejecting = 0xFFFF; edges = replicate 32 (wide false) ++ replicate 32 (wide true) };
 }
 

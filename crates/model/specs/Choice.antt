@@ -126,7 +126,7 @@ chosen a tables = take (length (entries a)) tables
 unfoldable pub lowered : List Process → List ℕ → List Process
 lowered [] bs = []
 lowered (p ∷ ps) [] = p ∷ ps
-lowered (p ∷ ps) (b ∷ bs) = record { inputs = p .inputs; outputs = p .outputs; bound = min b (p .bound) } ∷ lowered ps bs
+lowered (p ∷ ps) (b ∷ bs) = record { inputs = p .inputs; outputs = p .outputs; bound = min b (p .bound); prompts = p .prompts; prompted = p .prompted } ∷ lowered ps bs
 
 -- behind the rows of each process, rows of zeros up to its bound
 unfoldable pub padRows : List Process → List ℕ → List ℕ → List ℕ

@@ -3,7 +3,7 @@ use mathlib.Core.List.{List, [], _∷_}
 use Prim.Native.Nat.{ℕ}
 use Rattle.model.specs.declared.Refusal.{Refusal}
 use Rattle.model.specs.declared.Refusal.the-variants.{SheetTooShort, WrongMark, BadArchitecture, BadProcess, NoOwnerOrTooMany, BadAutomaton}
-use Rattle.model.specs.declared.Refusal.the-variants.{BadEdge, BookBufferTooShort, AnnotationBufferTooShort, BadBook, BadEntry, NoSuchProcess, BadTie}
+use Rattle.model.specs.declared.Refusal.the-variants.{BadEdge, BookBufferTooShort, AnnotationBufferTooShort, BadBook, BadEntry, NoSuchProcess, BadTie, BadPrompt}
 use Rattle.model.specs.declared.Finding.{Finding}
 use Rattle.model.specs.declared.Finding.the-variants.{Yes, No}
 use Rattle.model.specs.declared.Verdict.{Verdict}
@@ -25,10 +25,11 @@ number BadBook = 10
 number BadEntry = 11
 number NoSuchProcess = 12
 number BadTie = 15
+number BadPrompt = 21
 
 -- the numbers of a sheet's own faults
 abbrev pub sheetNumbers : List ℕ
-sheetNumbers = 1 ∷ 2 ∷ 3 ∷ 4 ∷ 5 ∷ 6 ∷ 7 ∷ 15 ∷ []
+sheetNumbers = 1 ∷ 2 ∷ 3 ∷ 4 ∷ 5 ∷ 6 ∷ 7 ∷ 15 ∷ 21 ∷ []
 
 -- ---- what a C caller gets: 0 for the good answer, 256 for the other finding, otherwise the refusal's number
 -- proper, written, read

@@ -1,14 +1,14 @@
--- 01, "The sheet file" and "Who causes which refusal", 1 to 7 and 15: how a sheet is read, to the first fault in file order.
+-- 01, "The sheet file" and "Who causes which refusal", 1 to 7, 15 and 21: how a sheet is read, to the first fault in file order.
 use mathlib.Core.Bool.{Bool, true, false, _&&_, _||_, not}
 use mathlib.Core.List.{List, [], _∷_}
 use Prim.Native.Nat.{ℕ, zero, suc, _+_, _-_, _*_, _^_}
 use lib.Dec.{eqb, ltb, leb}
 use lib.ListN.{getD, length}
 use Rattle.model.specs.declared.Refusal.{Refusal}
-use Rattle.model.specs.declared.Refusal.the-variants.{SheetTooShort, WrongMark, BadArchitecture, BadProcess, NoOwnerOrTooMany, BadAutomaton, BadEdge, BadTie}
+use Rattle.model.specs.declared.Refusal.the-variants.{SheetTooShort, WrongMark, BadArchitecture, BadProcess, NoOwnerOrTooMany, BadAutomaton, BadEdge, BadTie, BadPrompt}
 use Rattle.theory.specs.Lists.{all, from}
-use Rattle.model.specs.Mask.{if, share, beyond, count}
-use Rattle.model.specs.Sheet.{Process, Tie, Architecture, Edge, Automaton, Sheet, withProcess, withTie, processNo, owned, composedStates}
+use Rattle.model.specs.Mask.{if, within, share, beyond, count, pack}
+use Rattle.model.specs.Sheet.{Process, Tie, Architecture, Edge, Automaton, Sheet, withProcess, withTie, processNo, outputsOf, owned, composedStates}
 
 -- what is read, or the refusal of the first fault
 pub data Reading (A : Type 0) : Type 0 where
@@ -44,6 +44,10 @@ AR = 0x41 ∷ 0x52 ∷ []
 abbrev pub PR : List ℕ
 PR = 0x50 ∷ 0x52 ∷ []
 
+-- a process with prompt inputs
+abbrev pub PM : List ℕ
+PM = 0x50 ∷ 0x4D ∷ []
+
 -- a tie
 abbrev pub SY : List ℕ
 SY = 0x53 ∷ 0x59 ∷ []
@@ -69,7 +73,12 @@ unfoldable pub marked : List ℕ → ℕ → List ℕ → Bool
 unfolding short
 marked b i m = not (short b i 2) && eqb (byte b i) (byte m 0) && eqb (byte b (i + 1)) (byte m 1)
 
--- the mark of a tie stands at i, where one may: behind one PR or more
+-- the mark of a process of either kind stands at i
+unfoldable pub processMarked : List ℕ → ℕ → Bool
+unfolding marked
+processMarked b i = marked b i PR || marked b i PM
+
+-- the mark of a tie stands at i, where one may: behind one process or more
 unfoldable pub tieMarked : Architecture → List ℕ → ℕ → Bool
 unfolding marked
 tieMarked a b i = marked b i SY && not (eqb (length (a .processes)) 0)
@@ -91,22 +100,29 @@ unfolding share
 taken [] p = false
 taken (q ∷ qs) p = share (p .outputs) (q .outputs) || taken qs p
 
--- a PR field outside the rules: a bit at or above the variables, an environment variable as output, more than 4 inputs, its own output as input, or a bound outside 1 to 4
+-- a field of a PR or PM, its prompt inputs aside, outside the rules: a bit at or above the variables, an environment variable as output, more than 4 inputs, its own output as input, or a bound outside 1 to 4
 unfoldable pub fieldFault : ℕ → ℕ → Process → Bool
 unfolding beyond share count
 fieldFault variables environment p =
     beyond (p .inputs) variables || beyond (p .outputs) variables || share (p .outputs) (2 ^ environment - 1) || ltb 4 (count (p .inputs)) || share (p .inputs) (p .outputs)
     || eqb (p .bound) 0 || ltb 4 (p .bound)
 
--- 4: of a PR behind those of a, a field outside the rules, or an output already taken
+-- 4: of a PR or PM behind those of a, a field outside the rules, or an output already taken
 unfoldable pub prFault : Architecture → Process → Bool
 unfolding fieldFault taken
 prFault a p = fieldFault (a .variables) (a .environment) p || taken (a .processes) p
 
--- two processes that cannot share a table: unequal bounds, counts of inputs or counts of outputs
+-- 21: of a PM behind these processes, a prompt bit that is no input, or no output of one of them
+unfoldable pub promptFault : List Process → Process → Bool
+unfolding within outputsOf
+promptFault ps p = not (within (p .prompts) (p .inputs)) || not (within (p .prompts) (outputsOf ps))
+
+-- two processes that cannot share a table: unequal bounds, counts of inputs or of outputs, or places of prompt inputs
 unfoldable pub unlike : Process → Process → Bool
-unfolding count
-unlike p q = not (eqb (p .bound) (q .bound)) || not (eqb (count (p .inputs)) (count (q .inputs))) || not (eqb (count (p .outputs)) (count (q .outputs)))
+unfolding count pack
+unlike p q =
+    not (eqb (p .bound) (q .bound)) || not (eqb (count (p .inputs)) (count (q .inputs))) || not (eqb (count (p .outputs)) (count (q .outputs)))
+    || not (eqb (pack (p .inputs) (p .prompts)) (pack (q .inputs) (q .prompts)))
 
 -- 15: a process that there is not, one and the same process, or two that cannot share a table
 unfoldable pub tieFault : List Process → Tie → Bool
@@ -128,14 +144,24 @@ unfoldable pub edFault : ℕ → ℕ → Edge → Bool
 unfolding beyond share
 edFault variables states e = leb states (e .from) || leb states (e .to) || beyond (e .on) variables || beyond (e .off) variables || share (e .on) (e .off)
 
--- ---- the front: AR, the PR records and the SY records
+-- ---- the front: AR, the PR and PM records and the SY records
 -- the fields of the AR at the start, with no process and no tie yet
 abbrev pub architectureAt : List ℕ → Architecture
 architectureAt b = record { variables = byte b 2; environment = byte b 3; root = byte b 4; processes = []; ties = [] }
 
--- the fields of the PR at i
+-- the prompt mask of the PM at i; a PR has none
+unfoldable pub promptsAt : List ℕ → ℕ → ℕ
+unfolding if marked
+promptsAt b i = if (marked b i PM) (byte b (i + 5)) 0
+
+-- the fields of the PR or PM at i, and its kind
 abbrev pub processAt : List ℕ → ℕ → Process
-processAt b i = record { inputs = byte b (i + 2); outputs = byte b (i + 3); bound = byte b (i + 4) }
+processAt b i = record { inputs = byte b (i + 2); outputs = byte b (i + 3); bound = byte b (i + 4); prompts = promptsAt b i; prompted = marked b i PM }
+
+-- how many bytes it has
+unfoldable pub processSize : List ℕ → ℕ → ℕ
+unfolding if marked
+processSize b i = if (marked b i PM) 6 5
 
 -- the fields of the SY at i
 abbrev pub tieAt : List ℕ → ℕ → Tie
@@ -146,21 +172,22 @@ pub record Front : Type 0 where
   pub architecture : Architecture
   pub end : ℕ
 
--- one PR behind those of a, and then the rest
+-- one PR or PM behind those of a, and then the rest
 unfoldable pub readProcess : Architecture → List ℕ → ℕ → Reading Front → Reading Front
-unfolding refuse_when_else_ short prFault
+unfolding refuse_when_else_ short processSize promptsAt prFault promptFault
 readProcess a b i rest =
-    refuse SheetTooShort when short b i 5 else
+    refuse SheetTooShort when short b i (processSize b i) else
     refuse BadProcess when prFault a (processAt b i) else
+    refuse BadPrompt when promptFault (a .processes) (processAt b i) else
     rest
 
--- at most k more PR behind those of a
+-- at most k more PR and PM behind those of a
 unfoldable pub readProcesses : ℕ → Architecture → List ℕ → ℕ → Reading Front
-unfolding if marked withProcess readProcess
+unfolding if processMarked processSize promptsAt withProcess readProcess
 readProcesses zero a b i = proper record { architecture = a; end = i }
 readProcesses (suc k) a b i =
-    let rest = readProcesses k (withProcess a (processAt b i)) b (i + 5) in
-    if (marked b i PR) (readProcess a b i rest) (proper record { architecture = a; end = i })
+    let rest = readProcesses k (withProcess a (processAt b i)) b (i + processSize b i) in
+    if (processMarked b i) (readProcess a b i rest) (proper record { architecture = a; end = i })
 
 -- one SY behind those of a, and then the rest
 unfoldable pub readTie : Architecture → List ℕ → ℕ → Reading Front → Reading Front
@@ -219,7 +246,7 @@ readEdges variables states (suc k) b i =
     let rest = readEdges variables states k b (i + 6) in
     if (edgeMarked b i) (readEdge variables states b i rest) (readEnd b i)
 
--- AU, behind one PR or more, then the edges; at AU, 5 before 6
+-- AU, behind one process or more, then the edges; at AU, 5 before 6
 unfoldable pub readAutomaton : Architecture → List ℕ → ℕ → Reading Automaton
 unfolding refuse_when_else_ _then_ short marked allFault auFault readEdges
 readAutomaton a b i =

@@ -3,22 +3,25 @@ use mathlib.Core.Path.{_≡_}
 use mathlib.Core.Bool.{Bool, true, false, _||_}
 use mathlib.Core.List.{List, [], _∷_, _++_, List·Memᴰ}
 use Prim.Native.Nat.{ℕ, _-_, _*_, _^_, _≤_, _<_}
+use lib.Bits.{bitOr}
 use lib.ListN.{length, getD}
-use Rattle.theory.specs.Lists.{Pairwise}
-use Rattle.model.specs.Mask.{bit, share, count}
+use Rattle.theory.specs.Lists.{Pairwise, InTurn}
+use Rattle.model.specs.Mask.{bit, within, share, count, pack}
 
--- PR: a process reads its inputs, sets its outputs, and has `bound` states
+-- PR and PM: a process reads its inputs, sets its outputs, and has `bound` states. A PM is `prompted`: its prompt inputs, perhaps none, are read after the step of the process that puts them out
 pub record Process : Type 0 where
   pub inputs : ℕ
   pub outputs : ℕ
   pub bound : ℕ
+  pub prompts : ℕ
+  pub prompted : Bool
 
 -- SY: two processes that share one table
 pub record Tie : Type 0 where
   pub left : ℕ
   pub right : ℕ
 
--- AR, every PR and every SY, in file order: the environment variables are the lowest numbered, and `root` are their values at the start
+-- AR, every PR and PM and every SY, in file order: the environment variables are the lowest numbered, and `root` are their values at the start
 pub record Architecture : Type 0 where
   pub variables : ℕ
   pub environment : ℕ
@@ -60,11 +63,20 @@ withEdge u e = record { states = u .states; initial = u .initial; rejecting = u 
 
 -- no process
 abbrev pub nobody : Process
-nobody = record { inputs = 0; outputs = 0; bound = 0 }
+nobody = record { inputs = 0; outputs = 0; bound = 0; prompts = 0; prompted = false }
 
 -- process i of these
 abbrev pub processNo : List Process → ℕ → Process
 processNo ps i = getD ps i nobody
+
+-- the same process as a PR
+abbrev pub asPR : Process → Process
+asPR p = record { inputs = p .inputs; outputs = p .outputs; bound = p .bound; prompts = 0; prompted = false }
+
+-- all outputs of these processes, in one mask
+unfoldable pub outputsOf : List Process → ℕ
+outputsOf [] = 0
+outputsOf (p ∷ ps) = bitOr (p .outputs) (outputsOf ps)
 
 -- an output of one of these processes
 unfoldable pub owned : List Process → ℕ → Bool
@@ -100,11 +112,22 @@ ProperProcesses variables environment ps = (p : Process) → List·Memᴰ p ps �
 abbrev pub OutputsApart : List Process → Type 0
 OutputsApart ps = Pairwise (λ p q. Apart (p .outputs) (q .outputs)) ps
 
--- p and q can share a table: equal bounds, equally many inputs and equally many outputs
+-- every bit of m is a bit of n
+abbrev pub Within : ℕ → ℕ → Type 0
+Within m n = within m n ≡ true
+
+-- the prompt inputs of p, behind these processes: inputs that they put out; a PR has none
+pub record ProperPrompts (lower : List Process) (p : Process) : Type 0 where
+  pub prompts-read : Within (p .prompts) (p .inputs)
+  pub prompts-lower : Within (p .prompts) (outputsOf lower)
+  pub none-of-PR : p .prompted ≡ false → p .prompts ≡ 0
+
+-- p and q can share a table: equal bounds, equally many inputs and equally many outputs, and prompt inputs at equal places
 pub record SameShape (p q : Process) : Type 0 where
   pub bounds : p .bound ≡ q .bound
   pub inputs : count (p .inputs) ≡ count (q .inputs)
   pub outputs : count (p .outputs) ≡ count (q .outputs)
+  pub prompts : pack (p .inputs) (p .prompts) ≡ pack (q .inputs) (q .prompts)
 
 -- a tie: two of these processes, different ones, that can share a table
 pub record ProperTie (ps : List Process) (t : Tie) : Type 0 where
@@ -117,7 +140,7 @@ pub record ProperTie (ps : List Process) (t : Tie) : Type 0 where
 abbrev pub ProperTies : List Process → List Tie → Type 0
 ProperTies ps ts = (t : Tie) → List·Memᴰ t ts → ProperTie ps t
 
--- AR, every PR and every SY, each by itself and beside those before it
+-- AR, every PR and PM and every SY, each by itself and beside those before it
 pub record ProperFront (a : Architecture) : Type 0 where
   pub few-variables : a .variables ≤ 8
   pub few-environment : a .environment ≤ 4
@@ -126,6 +149,7 @@ pub record ProperFront (a : Architecture) : Type 0 where
   pub few-processes : length (a .processes) ≤ 4
   pub processes-proper : ProperProcesses (a .variables) (a .environment) (a .processes)
   pub outputs-apart : OutputsApart (a .processes)
+  pub prompts-proper : InTurn ProperPrompts [] (a .processes)
   pub few-ties : length (a .ties) ≤ 3
   pub ties-proper : ProperTies (a .processes) (a .ties)
 

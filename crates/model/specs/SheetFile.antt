@@ -1,20 +1,26 @@
--- 01, "The sheet file" and refusals 1 to 7 and 15 a second time, without a reader: how a sheet is written, and which rows of bytes are none.
+-- 01, "The sheet file" and refusals 1 to 7, 15 and 21 a second time, without a reader: how a sheet is written, and which rows of bytes are none.
 use mathlib.Core.Path.{_≡_}
-use mathlib.Core.Bool.{Bool}
+use mathlib.Core.Bool.{Bool, true}
 use mathlib.Core.Logic.{_⊎_}
 use mathlib.Core.List.{List, [], _∷_, _++_}
 use Prim.Native.Nat.{ℕ, _/_, _%_, _≤_, _<_}
 use lib.ListN.{length}
 use Rattle.model.specs.declared.Refusal.{Refusal}
-use Rattle.model.specs.declared.Refusal.the-variants.{WrongMark, BadArchitecture, BadProcess, NoOwnerOrTooMany, BadAutomaton, BadEdge, BadTie}
-use Rattle.model.specs.Sheet.{Process, Tie, Architecture, Edge, Automaton, Sheet, withProcess, withTie, withEdge, ProperFront, ProperArchitecture, ProperAutomaton, ProperSheet}
+use Rattle.model.specs.declared.Refusal.the-variants.{WrongMark, BadArchitecture, BadProcess, NoOwnerOrTooMany, BadAutomaton, BadEdge, BadTie, BadPrompt}
+use Rattle.model.specs.Sheet.{Process, Tie, Architecture, Edge, Automaton, Sheet, withProcess, withTie, withEdge, asPR, ProperFront, ProperArchitecture, ProperAutomaton, ProperSheet}
 use Rattle.model.specs.Mask.{if}
-use Rattle.model.specs.Reading.{AR, PR, SY, AU, ED, EX, EN, byte}
+use Rattle.model.specs.Reading.{AR, PR, PM, SY, AU, ED, EX, EN, byte}
 
 -- ---- the records, each its mark and its fields
--- PR
+-- the mark of a process: PM where it is prompted, and otherwise PR
+unfoldable pub processMark : Bool → List ℕ
+unfolding if
+processMark prompted = if prompted PM PR
+
+-- PR, or PM with its prompt mask
 unfoldable pub processBytes : Process → List ℕ
-processBytes p = PR ++ (p .inputs ∷ p .outputs ∷ p .bound ∷ [])
+unfolding processMark if
+processBytes p = processMark (p .prompted) ++ (p .inputs ∷ p .outputs ∷ p .bound ∷ if (p .prompted) (p .prompts ∷ []) [])
 
 -- SY
 unfoldable pub tieBytes : Tie → List ℕ
@@ -52,7 +58,7 @@ unfolding edgeBytes
 edgesBytes [] = []
 edgesBytes (e ∷ es) = edgeBytes e ++ edgesBytes es
 
--- AR, every PR and every SY
+-- AR, every PR and PM and every SY
 unfoldable pub frontBytes : Architecture → List ℕ
 unfolding processesBytes tiesBytes
 frontBytes a = AR ++ (a .variables ∷ a .environment ∷ a .root ∷ []) ++ processesBytes (a .processes) ++ tiesBytes (a .ties)
@@ -72,19 +78,19 @@ unfoldable pub sheetBytes : Sheet → List ℕ
 unfolding recordsBytes
 sheetBytes s = recordsBytes s ++ EN
 
--- the length of the longest sheet: AR, four PR, three SY, AU, 64 ED or EX, and EN
+-- the length of the longest sheet: AR, four PM, three SY, AU, 64 ED or EX, and EN
 abbrev pub longestSheet : ℕ
-longestSheet = 429
+longestSheet = 433
 
 -- what a file holds
 abbrev pub Bytes : List ℕ → Type 0
 Bytes b = (i : ℕ) → byte b i < 256
 
 -- ---- the marks that may stand behind proper records
--- behind AR, the PR and the SY: a PR up to the fourth, behind no SY; behind one PR or more an SY up to the third, and AU
+-- behind AR, the PR and PM, and the SY: a PR or a PM up to the fourth of both together, behind no SY; behind one of them or more an SY up to the third, and AU
 abbrev pub FollowsFront : Architecture → List ℕ → Type 0
 FollowsFront a m =
-    ((m ≡ PR) × (length (a .processes) < 4) × (a .ties ≡ []))
+    (((m ≡ PR) ⊎ (m ≡ PM)) × (length (a .processes) < 4) × (a .ties ≡ []))
     ⊎ ((m ≡ SY) × (1 ≤ length (a .processes)) × (length (a .ties) < 3))
     ⊎ ((m ≡ AU) × (1 ≤ length (a .processes)))
 
@@ -97,19 +103,22 @@ pub data Unfinished : List ℕ → Type 0 where
   in-first-mark : (x : List ℕ) → length x < 2 → Unfinished x
   in-architecture : (x : List ℕ) → length x < 3 → Unfinished (AR ++ x)
   in-mark-behind-front : (a : Architecture) (x : List ℕ) → ProperFront a → length x < 2 → Unfinished (frontBytes a ++ x)
-  in-process : (a : Architecture) (x : List ℕ) → ProperFront a → length (a .processes) < 4 → a .ties ≡ [] → length x < 3 → Unfinished (frontBytes a ++ PR ++ x)
+  in-process : (a : Architecture) (prompted : Bool) (x : List ℕ) → ProperFront a → length (a .processes) < 4 → a .ties ≡ [] → length x < if prompted 4 3
+      → Unfinished (frontBytes a ++ processMark prompted ++ x)
   in-tie : (a : Architecture) (x : List ℕ) → ProperFront a → 1 ≤ length (a .processes) → length (a .ties) < 3 → length x < 2 → Unfinished (frontBytes a ++ SY ++ x)
   in-states : (a : Architecture) (x : List ℕ) → ProperFront a → 1 ≤ length (a .processes) → length x < 4 → Unfinished (frontBytes a ++ AU ++ x)
   in-mark-behind-edges : (s : Sheet) (x : List ℕ) → ProperSheet s → length x < 2 → Unfinished (recordsBytes s ++ x)
   in-edge : (s : Sheet) (unless : Bool) (x : List ℕ) → ProperSheet s → length (s .automaton .edges) < 64 → length x < 4 → Unfinished (recordsBytes s ++ edgeMark unless ++ x)
 
--- ---- 2 to 7 and 15: the row ends with its first faulty record, which makes the proper ones before it improper
+-- ---- 2 to 7, 15 and 21: the row ends with its first faulty record, which makes the proper ones before it improper
 pub data Faulty : List ℕ → Refusal → Type 0 where
   wrong-first-mark : (m : List ℕ) → length m ≡ 2 → ¬ (m ≡ AR) → Faulty m WrongMark
   bad-architecture : (a : Architecture) → a .processes ≡ [] → a .ties ≡ [] → ¬ ProperFront a → Faulty (frontBytes a) BadArchitecture
   wrong-mark-behind-front : (a : Architecture) (m : List ℕ) → ProperFront a → length m ≡ 2 → ¬ FollowsFront a m → Faulty (frontBytes a ++ m) WrongMark
-  bad-process : (a : Architecture) (p : Process) → ProperFront a → length (a .processes) < 4 → a .ties ≡ [] → ¬ ProperFront (withProcess a p)
+  bad-process : (a : Architecture) (p : Process) → ProperFront a → length (a .processes) < 4 → a .ties ≡ [] → ¬ ProperFront (withProcess a (asPR p))
       → Faulty (frontBytes a ++ processBytes p) BadProcess
+  bad-prompt : (a : Architecture) (p : Process) → ProperFront a → length (a .processes) < 4 → a .ties ≡ [] → p .prompted ≡ true → ProperFront (withProcess a (asPR p))
+      → ¬ ProperFront (withProcess a p) → Faulty (frontBytes a ++ processBytes p) BadPrompt
   bad-tie : (a : Architecture) (t : Tie) → ProperFront a → 1 ≤ length (a .processes) → length (a .ties) < 3 → ¬ ProperFront (withTie a t) → Faulty (frontBytes a ++ tieBytes t) BadTie
   no-owner-or-too-many : (a : Architecture) (u : Automaton) → ProperFront a → 1 ≤ length (a .processes) → ¬ ProperArchitecture a → Faulty (frontBytes a ++ statesBytes u) NoOwnerOrTooMany
   bad-automaton : (a : Architecture) (u : Automaton) → ProperArchitecture a → u .edges ≡ [] → ¬ ProperAutomaton (a .variables) u → Faulty (frontBytes a ++ statesBytes u) BadAutomaton

@@ -8,11 +8,12 @@ use Rattle.model.specs.Sheet.{Sheet}
 use Rattle.model.specs.Reading.{proper, readSheet}
 use Rattle.model.specs.BenchCases.{sheetE, edge, bookE}
 use Rattle.model.specs.Calls.{findSheet, judgeOf}
-use Rattle.model.specs.Demands.{demand-1, demand-2, demand-3, tied-tables, unless-edges, sizes}
+use Rattle.model.specs.Demands.{demand-1, demand-2, demand-3, tied-tables, prompt-inputs, unless-edges, sizes}
 use Rattle.model.proofs.DemandOne.{first-demand}
 use Rattle.model.proofs.DemandTwo.{second-demand}
 use Rattle.model.proofs.DemandThree.{third-demand}
 use Rattle.model.proofs.TiedTables.{all-tied}
+use Rattle.model.proofs.PromptInputs.{all-prompted}
 use Rattle.model.proofs.UnlessEdges.{all-unless}
 use Rattle.model.proofs.Sizes.{all-sizes}
 
@@ -31,6 +32,10 @@ exact-search = third-demand
 -- ties: each book that is read has one table for tied processes, and what breaks a tie gets 11
 pub exact-ties : (sheet : List ℕ) (s : Sheet) (is-proper : readSheet sheet ≡ proper s) → tied-tables sheet s is-proper
 exact-ties = all-tied
+
+-- prompt inputs: each process moves on what it really reads, and without prompt inputs as 01 has it
+pub exact-prompts : (sheet : List ℕ) (s : Sheet) (is-proper : readSheet sheet ≡ proper s) → prompt-inputs sheet s is-proper
+exact-prompts = all-prompted
 
 -- edges that say unless: EX turns the test of the masks round, and nothing else
 pub exact-unless : unless-edges

@@ -6,16 +6,16 @@ use Prim.Native.Nat.{ℕ, _+_, _*_, _^_, _<_, _≤_}
 use native.Mathlib.Omega.{arith}
 use lib.Bits.{bitOr}
 use lib.ListN.{length, length-append}
-use Rattle.model.specs.Sheet.{Process, Tie, withProcess, withTie, composedStates, ProperFront}
+use Rattle.model.specs.Sheet.{Process, Tie, withProcess, withTie, outputsOf, composedStates, ProperFront}
 use Rattle.model.specs.Sheet as model
-use Rattle.model.specs.Reading.{arFault, prFault, tieFault}
-use Rattle.model.proofs.ProperSheet.{opening-proper, process-more, tie-more}
+use Rattle.model.specs.Reading.{arFault, prFault, promptFault, tieFault, processAt}
+use Rattle.model.proofs.ProperSheet.{opening-proper, process-more, none-of-PR-at, tie-more}
+use Rattle.model.proofs.PromptInputs.{outputs-more}
 use Rattle.architecture.specs.declared.Architecture.{Architecture}
 use Rattle.architecture.specs.Struct.{architectureOf, processesIn, Arrays}
 use Rattle.architecture.proofs.ProcessesOfArrays.{count-is, ties-count}
 use Rattle.sheet.specs.declared.FrontRead.{FrontRead}
-use Rattle.sheet.specs.Struct.{outputsOf, FrontKnown}
-use Rattle.sheet.proofs.OwnedOutputs.{outputs-more}
+use Rattle.sheet.specs.Struct.{FrontKnown}
 use Rattle.sheet.proofs.ComposedStates.{composed-more, composed-few}
 
 pub count-more : (x y : Architecture) (p : Process) → architectureOf y ≡ withProcess (architectureOf x) p → y .processes ≡ x .processes + 1
@@ -43,10 +43,14 @@ known-opened b f a none untied sound is arrays inside owned total =
     }
 
 -- ---- one process more, without fault
-module _ {b : List ℕ} {f : FrontRead} (z : FrontKnown b f) (few : f .architecture .processes < 4) (p : Process) (sound : prFault (architectureOf (f .architecture)) p ≡ false) where
-  grown : ProperFront (withProcess (architectureOf (f .architecture)) p)
-  grown = process-more (architectureOf (f .architecture)) p (z .proper) (omega (arith, count-is (f .architecture))) sound
+-- p as the record at i has it
+pub process-grown : {b : List ℕ} {f : FrontRead} → FrontKnown b f → f .architecture .processes < 4 → (i : ℕ) → let a = architectureOf (f .architecture) in let p = processAt b i in
+    prFault a p ≡ false → promptFault (processesIn (f .architecture)) p ≡ false → ProperFront (withProcess a p)
+unfolding architectureOf
+process-grown {b} {f} z few i sound prompts =
+    process-more (architectureOf (f .architecture)) (processAt b i) (z .proper) (omega (arith, count-is (f .architecture))) sound prompts (none-of-PR-at b i)
 
+module _ {b : List ℕ} {f : FrontRead} (z : FrontKnown b f) (p : Process) (grown : ProperFront (withProcess (architectureOf (f .architecture)) p)) where
   composed-next : f .total * p .bound ≡ composedStates (f .architecture .environment) (processesIn (f .architecture) ++ (p ∷ []))
   composed-next = ap (λ (t : ℕ). t * p .bound) (z .total-is) ∙ sym (composed-more (f .architecture .environment) (processesIn (f .architecture)) p)
 

@@ -1,22 +1,21 @@
 -- Laws of masks: a shift that leaves nothing, what a union shares, and who owns a variable.
 use mathlib.Core.Path.{_≡_, refl, sym, ap, _∙_}
 use mathlib.Core.Bool.{Bool, true, false, _&&_, _||_, not}
-use mathlib.Core.List.{List, [], _∷_, _++_}
+use mathlib.Core.List.{List, [], _∷_}
 use Prim.Native.Nat.{ℕ, zero, suc, _+_, _-_, _/_, _^_, _<_}
 use native.Mathlib.Numerals.{add-one}
 use native.Mathlib.Nat.{one-mul, div-eq-of-lt, div-lt-iff-lt-mul}
 use native.Mathlib.Omega.{arith}
 use lib.Dec.{eqb, leb}
 use lib.Pow.{pow-pos}
-use lib.Bits.{bitAnd, bitOr, and-zero-r, and-le-r, or-comm, or-add-and}
+use lib.Bits.{bitAnd, bitOr, and-zero-r, and-le-r, or-add-and}
 use borrow.Author.Tests.{leb-true, leb-false, ne-eqb}
 use Rattle.theory.specs.Lists.{all, from}
-use Rattle.theory.proofs.BitLaws.{bit-or, and-or, or-assoc}
+use Rattle.theory.proofs.BitLaws.{bit-or, and-or}
 use Rattle.theory.proofs.DepthFirst.{empty}
 use Rattle.model.specs.Mask.{bit, share, beyond}
-use Rattle.model.specs.Sheet.{Process, owned}
+use Rattle.model.specs.Sheet.{Process, outputsOf, owned}
 use Rattle.model.specs.Reading.{taken}
-use Rattle.sheet.specs.Struct.{outputsOf}
 
 -- a shift by n leaves something exactly where a bit stands at or above n
 pub shifted-out : (m n : ℕ) → not (eqb (m / 2 ^ n) 0) ≡ beyond m n
@@ -66,9 +65,3 @@ pub owned-is : (ps : List Process) (is : List ℕ) → all (bit (outputsOf ps)) 
 unfolding all
 owned-is ps [] = refl
 owned-is ps (i ∷ is) = rw (outputs-bit ps i) (ap (λ (t : Bool). owned ps i && t) (owned-is ps is))
-
--- with one process more
-pub outputs-more : (ps : List Process) (p : Process) → outputsOf (ps ++ (p ∷ [])) ≡ bitOr (outputsOf ps) (p .outputs)
-unfolding outputsOf
-outputs-more [] p = or-comm (p .outputs) 0
-outputs-more (q ∷ ps) p = ap (bitOr (q .outputs)) (outputs-more ps p) ∙ sym (or-assoc (q .outputs) (outputsOf ps) (p .outputs))

@@ -5,17 +5,17 @@ use mathlib.Core.List.{List}
 use Prim.Native.Nat.{ℕ, zero, suc, _+_, _-_, _<_, _≤_}
 use native.Mathlib.Omega.{arith}
 use Rattle.model.specs.declared.Refusal.{Refusal}
-use Rattle.model.specs.declared.Refusal.the-variants.{SheetTooShort, WrongMark, BadArchitecture, BadProcess, BadTie}
+use Rattle.model.specs.declared.Refusal.the-variants.{SheetTooShort, WrongMark, BadArchitecture, BadProcess, BadTie, BadPrompt}
 use Rattle.model.specs.declared.Reply.{Reply}
 use Rattle.model.specs.Mask.{if, share}
-use Rattle.model.specs.Sheet.{Process, Architecture, withProcess, withTie}
-use Rattle.model.specs.Reading.{Reading, refused, proper, refuse_when_else_, _then_, short, marked, tieMarked, AR, PR, architectureAt, processAt, tieAt, arFault, taken, fieldFault, prFault, tieFault}
-use Rattle.model.specs.Reading.{Front, readProcess, readProcesses, readTie, readTies, readFront, readAutomaton, readSheet}
+use Rattle.model.specs.Sheet.{Process, Architecture, withProcess, withTie, outputsOf}
+use Rattle.model.specs.Reading.{Reading, refused, proper, refuse_when_else_, _then_, short, marked, processMarked, tieMarked, AR, architectureAt, processAt, processSize, tieAt}
+use Rattle.model.specs.Reading.{arFault, taken, fieldFault, prFault, promptFault, tieFault, Front, readProcess, readProcesses, readTie, readTies, readFront, readAutomaton, readSheet}
 use Rattle.model.proofs.ProperSheet.{passes, same-proper}
 use Rattle.architecture.specs.Struct.{architectureOf}
 use Rattle.sheet.specs.declared.FrontRead.{FrontRead}
 use Rattle.sheet.specs.declared.Sheet.{Sheet}
-use Rattle.sheet.specs.Struct.{readingAs, outputsOf, frontOf, frontAs, FrontKnown, automatonAs}
+use Rattle.sheet.specs.Struct.{readingAs, frontOf, frontAs, FrontKnown, automatonAs}
 use Rattle.sheet.specs.Steps.{processFrom, tieFrom}
 use Rattle.sheet.proofs.OwnedOutputs.{taken-is}
 use Rattle.sheet.proofs.AnswersOfReading.{front-refused, front-done}
@@ -111,13 +111,16 @@ tested-then r q t u x f = refuse-then r t _ f ∙ ap (refuse_when_else_ r t) (re
 
 module _ (b : List ℕ) where
   -- processes
-  pub processes-repeat : Repeats (λ a i. marked b i PR) (λ a i. processFrom a b i) (λ k a i. readProcesses k a b i)
+  pub processes-repeat : Repeats (λ a i. processMarked b i) (λ a i. processFrom a b i) (λ k a i. readProcesses k a b i)
   unfolding readProcesses readProcess processFrom
   processes-repeat = record {
     last = λ a i. refl;
     more = λ k a i.
-        ap (λ (x : Reading Front). if (marked b i PR) x (proper record { architecture = a; end = i }))
-        (sym (tested-then SheetTooShort BadProcess (short b i 5) (prFault a (processAt b i)) _ (λ f. readProcesses k (f .architecture) b (f .end))));
+        let next : Front → Reading Front = λ f. readProcesses k (f .architecture) b (f .end) in
+        ap (λ (x : Reading Front). if (processMarked b i) x (proper record { architecture = a; end = i }))
+        (sym (refuse-then SheetTooShort (short b i (processSize b i)) _ next
+        ∙ ap (refuse_when_else_ SheetTooShort (short b i (processSize b i)))
+        (tested-then BadProcess BadPrompt (prFault a (processAt b i)) (promptFault (a .processes) (processAt b i)) _ next)));
   }
 
   -- ties
@@ -134,15 +137,16 @@ module _ (b : List ℕ) where
 read-both : (r q : Refusal) (t u : Bool) {x f : Front} → refuse_when_else_ r t (refuse_when_else_ q u (proper x)) ≡ proper f → x ≡ f
 read-both r q t u {x} e = let whole = passes r t (refuse_when_else_ q u (proper x)) e in same-proper _ _ (passes q u (proper x) (whole .1) .1)
 
-pub process-read : (a : Architecture) (b : List ℕ) (i : ℕ) (f : Front) → processFrom a b i ≡ proper f → record { architecture = withProcess a (processAt b i); end = i + 5 } ≡ f
+pub process-read : (a : Architecture) (b : List ℕ) (i : ℕ) (f : Front) → processFrom a b i ≡ proper f → record { architecture = withProcess a (processAt b i); end = i + processSize b i } ≡ f
 unfolding processFrom readProcess
-process-read a b i f e = read-both SheetTooShort BadProcess (short b i 5) (prFault a (processAt b i)) e
+process-read a b i f e =
+    read-both BadProcess BadPrompt (prFault a (processAt b i)) (promptFault (a .processes) (processAt b i)) (passes SheetTooShort (short b i (processSize b i)) _ e .1)
 
 pub tie-read : (a : Architecture) (b : List ℕ) (i : ℕ) (f : Front) → tieFrom a b i ≡ proper f → record { architecture = withTie a (tieAt b i); end = i + 4 } ≡ f
 unfolding tieFrom readTie
 tie-read a b i f e = read-both SheetTooShort BadTie (short b i 4) (tieFault (a .processes) (tieAt b i)) e
 
--- what is wrong with a PR: a field, or else an output that the mask of all outputs has
+-- what is wrong with a process: a field, or else an output that the mask of all outputs has
 module _ (a : Architecture) (p : Process) where
   pub field-stops : fieldFault (a .variables) (a .environment) p ≡ true → prFault a p ≡ true
   unfolding prFault

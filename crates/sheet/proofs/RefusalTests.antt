@@ -19,6 +19,10 @@ fails e h = ap not (sym e) ∙ h
 pub passes : {t r : Bool} → r ≡ t → not r ≡ false → not t ≡ false
 passes e h = ap not (sym e) ∙ h
 
+-- of a call's result r, which is t: where r is told to be u, what is made of t is what is made of u
+pub told : {A : Type 0} {t r u : Bool} (f : Bool → A) → r ≡ t → r ≡ u → f u ≡ f t
+told f e h = ap f (sym h ∙ e)
+
 -- fewer than n bytes are left at i, or not
 module _ (b : List ℕ) (i n : ℕ) where
   pub too-few : length b - i < n → short b i n ≡ true

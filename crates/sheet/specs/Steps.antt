@@ -3,12 +3,12 @@ use mathlib.Core.List.{List, [], _++_}
 use Prim.Native.Nat.{ℕ, _+_, _*_}
 use Rattle.model.specs.declared.Refusal.the-variants.{SheetTooShort, BadAutomaton, BadEdge}
 use Rattle.model.specs.Sheet.{Architecture, Edge, Automaton, withProcess, withTie, withEdge}
-use Rattle.model.specs.Reading.{Reading, proper, refuse_when_else_, _then_, byte, short, auFault, edFault, processAt, tieAt, edgeAt, Front, readProcess, readTie, readEnd, readEdges}
+use Rattle.model.specs.Reading.{Reading, proper, refuse_when_else_, _then_, byte, short, auFault, edFault, processAt, processSize, tieAt, edgeAt, Front, readProcess, readTie, readEnd, readEdges}
 
--- one PR behind those of a
+-- one PR or PM behind those of a
 unfoldable pub processFrom : Architecture → List ℕ → ℕ → Reading Front
-unfolding readProcess withProcess
-processFrom a b i = readProcess a b i (proper record { architecture = withProcess a (processAt b i); end = i + 5 })
+unfolding readProcess processSize withProcess
+processFrom a b i = readProcess a b i (proper record { architecture = withProcess a (processAt b i); end = i + processSize b i })
 
 -- one SY behind those of a
 unfoldable pub tieFrom : Architecture → List ℕ → ℕ → Reading Front

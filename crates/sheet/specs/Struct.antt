@@ -1,12 +1,11 @@
 -- What the structs of the code stand for in the model, and what is asked of them. These are definitions.
 use mathlib.Core.Path.{_≡_}
-use mathlib.Core.List.{List, [], _∷_}
+use mathlib.Core.List.{List}
 use Prim.Native.Nat.{ℕ, _≤_}
-use lib.Bits.{bitOr}
 use lib.ListN.{length}
 use Rattle.model.specs.declared.Reply.{Reply}
 use Rattle.model.specs.Sheet as model
-use Rattle.model.specs.Sheet.{composedStates, ProperFront, ProperSheet}
+use Rattle.model.specs.Sheet.{outputsOf, composedStates, ProperFront, ProperSheet}
 use Rattle.model.specs.Reading as read
 use Rattle.architecture.specs.declared.Architecture.{Architecture}
 use Rattle.architecture.specs.Struct as architecture
@@ -50,11 +49,6 @@ frontAs (Reply.Refused r) a i = read.refused r
 -- the refusal, or the front where there is none
 abbrev pub frontOf : FrontRead → read.Reading read.Front
 frontOf f = frontAs (f .answer) (f .architecture) (f .end)
-
--- all outputs of these processes, in one mask
-unfoldable pub outputsOf : List model.Process → ℕ
-outputsOf [] = 0
-outputsOf (p ∷ ps) = bitOr (p .outputs) (outputsOf ps)
 
 -- what is known of the struct, also where a refusal cut the reading of these bytes short
 pub record FrontKnown (b : List ℕ) (f : FrontRead) : Type 0 where

@@ -1,16 +1,18 @@
-// What is wrong with the fields of a record: the conditions of the refusals 3 to 7 and 15.
+// What is wrong with the fields of a record: the conditions of the refusals 3 to 7, 15 and 21.
 ghost use mathlib.Core.Path.{_≡_};
-ghost use mathlib.Core.List.{[]};
+ghost use mathlib.Core.List.{List, []};
 ghost use Prim.Native.Nat.{_-_, _^_, _<_, _≤_};
 ghost use Rattle.theory.specs.Lists.{all, from};
 ghost use Rattle.model.specs.Mask.{bit, beyond};
-ghost use Rattle.model.specs.Sheet.{composedStates};
-ghost use Rattle.model.specs.Reading.{arFault, fieldFault, unlike, tieFault, allFault, auFault, edFault};
-ghost use Rattle.architecture.specs.Struct.{Arrays, architectureOf, processIn, processesIn};
+ghost use Rattle.model.specs.Sheet as model;
+ghost use Rattle.model.specs.Sheet.{outputsOf, composedStates};
+ghost use Rattle.model.specs.Reading.{arFault, fieldFault, promptFault, unlike, tieFault, allFault, auFault, edFault};
+ghost use Rattle.architecture.specs.Struct.{Arrays, processOf, architectureOf, processIn, processesIn};
 ghost use Rattle.automaton.specs.Struct.{edgeOf};
-ghost use Rattle.sheet.specs.Struct.{outputsOf};
 use architecture::Architecture;
+use architecture::Process;
 use automaton::Edge;
+use composition::pack;
 use model::AutomatonState;
 
 // The mask has a bit at or above n.
@@ -59,11 +61,14 @@ pub fn ar_fault(variables: u8, environment: u8, root: u8) -> bool
     is_beyond(root as u16, environment)
 }
 
-// Of a PR by itself: whether an output is already taken is another question.
-pub fn field_fault(variables: u8, environment: u8, inputs: u8, outputs: u8, bound: u8) -> bool
+// Of a process by itself: whether an output is already taken is another question, and what its prompt inputs are too.
+pub fn field_fault(variables: u8, environment: u8, process: Process) -> bool
     requires { ⌜ (variables ≤ 8) × (environment ≤ 4) ⌝ }
-    ensures { λ r. ⌜ r ≡ fieldFault variables environment (record { inputs = inputs; outputs = outputs; bound = bound }) ⌝ }
+    ensures { λ r. ⌜ r ≡ fieldFault variables environment (processOf process) ⌝ }
 {
+    let inputs = process.inputs;
+    let outputs = process.outputs;
+    let bound = process.bound;
     if is_beyond(inputs as u16, variables) {
         return true;
     }
@@ -85,6 +90,17 @@ pub fn field_fault(variables: u8, environment: u8, inputs: u8, outputs: u8, boun
     4 < bound
 }
 
+// Of a process behind those whose outputs are `owned`: a prompt input that is no input, or no output of one of them.
+pub fn prompt_fault(process: Process, owned: u8) -> bool
+    ensures { λ r. ⌜ ((lower : List model.Process) → owned ≡ outputsOf lower → r ≡ promptFault lower (processOf process)) ⌝ }
+{
+    let prompts = process.prompts;
+    if prompts & process.inputs != prompts {
+        return true;
+    }
+    prompts & owned != prompts
+}
+
 // Processes i and j cannot share a table.
 fn is_unlike(architecture: Architecture, i: usize, j: usize) -> bool
     requires { ⌜ Arrays architecture ⌝ }
@@ -94,13 +110,17 @@ fn is_unlike(architecture: Architecture, i: usize, j: usize) -> bool
     let bounds = architecture.bounds;
     let inputs = architecture.inputs;
     let outputs = architecture.outputs;
+    let prompts = architecture.prompts;
     if bounds[i] != bounds[j] {
         return true;
     }
     if u8::count_ones(inputs[i]) != u8::count_ones(inputs[j]) {
         return true;
     }
-    u8::count_ones(outputs[i]) != u8::count_ones(outputs[j])
+    if u8::count_ones(outputs[i]) != u8::count_ones(outputs[j]) {
+        return true;
+    }
+    pack(inputs[i], prompts[i]) != pack(inputs[j], prompts[j])
 }
 
 pub fn sy_fault(architecture: Architecture, left: u8, right: u8) -> bool

@@ -30,6 +30,8 @@ pub const AR: [u8; 2] = *b"AR";
 
 pub const PR: [u8; 2] = *b"PR";
 
+pub const PM: [u8; 2] = *b"PM";
+
 pub const SY: [u8; 2] = *b"SY";
 
 pub const AU: [u8; 2] = *b"AU";
@@ -52,7 +54,7 @@ pub struct Reading {
     pub sheet: Sheet,
 }
 
-// AR, the PR and the SY records: where the record behind them begins, the mask of all outputs, and the count of composed states.
+// AR, the PR and PM and the SY records: where the record behind them begins, the mask of all outputs, and the count of composed states.
 // Where the answer is a refusal, these are of what was read before it.
 pub struct FrontRead {
     pub answer: Reply,

@@ -9,7 +9,7 @@ use libc::STDOUT_FILENO;
 use model::Reply;
 
 // One byte more than the longest proper sheet, so that a byte after EN is seen.
-const ROOM: usize = 430;
+const ROOM: usize = 434;
 
 // The text for the bytes of a sheet file, at the front of the buffer: answers its length.
 fn answer_text(text: &mut [u8], sheet: &[u8]) -> usize

@@ -1,16 +1,20 @@
 -- Every example holds, by computation.
 use mathlib.Core.Path.{refl}
 use Rattle.model.specs.Mask.{pack}
-use Rattle.model.specs.Compose.{step, initial, T, number, composed}
+use Rattle.model.specs.Compose.{reads, step, initial, T, number, composed}
 use Rattle.model.specs.Reading.{readFront}
+use Rattle.model.specs.SheetFile.{processBytes, sheetBytes}
 use Rattle.model.specs.Choice.{entries, tableOf, keepsTies, lowered, padRows, padded}
 use Rattle.model.specs.RunGraph.{start, meets, met}
 use Rattle.model.specs.Computed.{successors}
 use Rattle.model.specs.Calls.{checkOf, findOf, judgeOf, annotateOf, writeOf, readOf, partOf}
+use Rattle.model.specs.Demands.{readBy, nextOf}
+use Rattle.model.specs.BenchCases.{longest}
 use Rattle.starred.specs.Examples.{Pinned}
 
 pub every-example : Pinned
-unfolding pack step initial T number composed readFront entries tableOf keepsTies lowered padRows padded start meets met successors checkOf findOf judgeOf annotateOf writeOf readOf partOf
+unfolding pack reads step initial T number composed readFront processBytes sheetBytes entries tableOf keepsTies lowered padRows padded
+    start meets met successors checkOf findOf judgeOf annotateOf writeOf readOf partOf readBy nextOf longest
 every-example = record {
   index-rises = refl;
   index-of-eight = refl;
@@ -19,10 +23,20 @@ every-example = record {
   unnumbered = refl;
   root-kept = refl;
   stepped = refl;
+  reads-both = refl;
+  reads-old = refl;
+  chain-risen = refl;
+  chain-fallen = refl;
+  both-new = refl;
+  none-prompt = refl;
+  as-PR = refl;
+  read-by = refl;
+  next-of = refl;
   entries-in-order = refl;
   zeros-behind = refl;
   own-rows = refl;
   never-raised = refl;
+  prompts-kept = refl;
   packed-first = refl;
   packed-last = refl;
   own-table = refl;
@@ -63,6 +77,31 @@ every-example = record {
   five-inputs = refl;
   at-most-256 = refl;
   above-256 = refl;
+  prompts-read = refl;
+  prompts-none = refl;
+  prompts-none-proper = refl;
+  process-written = refl;
+  prompts-written = refl;
+  prompts-none-written = refl;
+  sheet-written = refl;
+  longest-sheet = refl;
+  prompt-no-input = refl;
+  prompt-of-environment = refl;
+  prompt-of-later = refl;
+  prompt-unknown = refl;
+  prompt-own = refl;
+  field-before-prompt = refl;
+  taken-before-prompt = refl;
+  prompt-before-process = refl;
+  prompt-before-tie = refl;
+  prompt-before-owner = refl;
+  prompted-cut = refl;
+  four-processes = refl;
+  fifth-prompted = refl;
+  fifth-prompted-cut = refl;
+  fifth-plain = refl;
+  fifth-plain-cut = refl;
+  prompted-behind-tie = refl;
   ties-read = refl;
   circle-of-ties = refl;
   bounds-differ = refl;
@@ -73,6 +112,10 @@ every-example = record {
   no-left = refl;
   no-right = refl;
   neither = refl;
+  places-differ = refl;
+  prompt-alone = refl;
+  places-agree = refl;
+  kinds-differ = refl;
   tie-before-owner = refl;
   tie-cut = refl;
   fourth-tie = refl;

@@ -27,4 +27,6 @@ every-row =
     and refl and refl and one-more-byte
     -- S
     and refl and refl and refl and refl
+    -- P
+    and refl and refl and refl
     and done

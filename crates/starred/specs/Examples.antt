@@ -1,38 +1,49 @@
 -- Small examples beside the bench cases, whose rows are constant and whose roots are 0: each refuses a definition that all bench cases would let pass.
 use mathlib.Core.Path.{_≡_}
 use mathlib.Core.Bool.{true, false}
-use mathlib.Core.List.{List, [], _∷_, _++_}
+use mathlib.Core.List.{List, [], _∷_, _++_, map}
 use Prim.Native.Nat.{ℕ}
-use lib.ListN.{replicate, take}
+use lib.ListN.{length, replicate, take}
 use Rattle.model.specs.declared.Finding.the-variants.{Yes, No}
 use Rattle.model.specs.declared.Verdict.{Verdict}
 use Rattle.model.specs.declared.Reply.{Reply}
 use Rattle.model.specs.Mask.{pack}
 use Rattle.model.specs.Sheet.{Process, Tie, Architecture, Edge, Sheet}
 use Rattle.model.specs.Reading.{proper, readFront}
-use Rattle.model.specs.Compose.{Composed, step, initial, T, number, composed}
+use Rattle.model.specs.SheetFile.{processBytes, sheetBytes}
+use Rattle.model.specs.Compose.{Composed, reads, step, initial, T, number, composed}
 use Rattle.model.specs.Choice.{Entry, output, next, entries, tableOf, keepsTies, lowered, padRows, padded}
 use Rattle.model.specs.RunGraph.{start, meets, met}
 use Rattle.model.specs.Computed.{successors}
 use Rattle.model.specs.Calls.{checkOf, findOf, judgeOf, annotateOf, writeOf, readOf, partOf}
+use Rattle.model.specs.Demands.{readBy, nextOf}
 use Rattle.model.specs.Numbers.{replyCode, verdictCode, outcomeCode}
-use Rattle.model.specs.BenchCases.{sheetA, sheetE, edge, sheetS, tieS, choiceA, bookA, annotationA, bookE, bookS, both}
+use Rattle.model.specs.BenchCases.{sheetA, sheetE, edge, sheetS, tieS, choiceA, bookA, annotationA, bookE, bookS, both, longest}
 use Rattle.starred.specs.Table.{buffer, found, annotated, looped}
+
+-- ---- processes
+-- a PR
+abbrev pub plain : (inputs outputs bound : ℕ) → Process
+plain inputs outputs bound = record { inputs = inputs; outputs = outputs; bound = bound; prompts = 0x00; prompted = false }
+
+-- a PM
+abbrev pub prompt : (inputs outputs bound prompts : ℕ) → Process
+prompt inputs outputs bound prompts = record { inputs = inputs; outputs = outputs; bound = bound; prompts = prompts; prompted = true }
 
 -- ---- two processes that read each other
 -- variable 0 is the environment's and 1 at the start; process 0 reads variables 0 and 2, and process 1 variable 1
 abbrev pub first : Process
-first = record { inputs = 0x05; outputs = 0x02; bound = 2 }
+first = plain 0x05 0x02 2
 
 abbrev pub second : Process
-second = record { inputs = 0x02; outputs = 0x04; bound = 3 }
+second = plain 0x02 0x04 3
 
 abbrev pub pair : Architecture
 pair = record { variables = 3; environment = 1; root = 1; processes = first ∷ second ∷ []; ties = [] }
 
 -- a process without variables, of two states
 abbrev pub two : Process
-two = record { inputs = 0x00; outputs = 0x00; bound = 2 }
+two = plain 0x00 0x00 2
 
 -- a choice of tables for the pair
 abbrev pub tables : List ℕ
@@ -62,16 +73,42 @@ watched = record {
   };
 }
 
+-- ---- prompt inputs
+-- process 0 reads variable 0, of the environment, and 3, of process 2; behind it process 1 reads variables 0 and 1, and process 2 variables 1 and 2
+abbrev pub wires : List Process → Architecture
+wires behind = record { variables = 4; environment = 1; root = 0; processes = plain 0x09 0x02 4 ∷ behind; ties = [] }
+
+-- both as PM with these prompt masks
+abbrev pub prompted : ℕ → ℕ → Architecture
+prompted prompts₁ prompts₂ = wires (prompt 0x03 0x04 4 prompts₁ ∷ prompt 0x06 0x08 4 prompts₂ ∷ [])
+
+-- both as PR
+abbrev pub delayed : Architecture
+delayed = wires (plain 0x03 0x04 4 ∷ plain 0x06 0x08 4 ∷ [])
+
+-- no variable, and this process alone
+abbrev pub lone : Process → Architecture
+lone p = record { variables = 0; environment = 0; root = 0; processes = p ∷ []; ties = [] }
+
+-- a row with this mask, whose next state is the index of what is read
+abbrev pub noted : ℕ → List ℕ
+noted mask = mask ∷ 0 ∷ 1 ∷ 2 ∷ 3 ∷ []
+
+-- tables of such rows: process 0 puts out what it has read of variable 0, the others what they have read of variable 1
+abbrev pub notes : List ℕ
+notes =
+    noted 0x00 ++ noted 0x02 ++ noted 0x00 ++ noted 0x02
+    ++ noted 0x00 ++ noted 0x00 ++ noted 0x04 ++ noted 0x04
+    ++ noted 0x00 ++ noted 0x08 ++ noted 0x00 ++ noted 0x08
+
+-- the environment's value and the states of all three
+abbrev pub atAll : ℕ → ℕ → ℕ → ℕ → Composed
+atAll environment x y z = record { environment = environment; states = x ∷ y ∷ z ∷ [] }
+
 -- ---- tied processes
 -- processes 0 and 2 have masks of other shapes; process 1, between them, has more entries
 abbrev pub benches : List Tie → Architecture
-benches ties = record {
-  variables = 6;
-  environment = 1;
-  root = 0;
-  processes = record { inputs = 0x01; outputs = 0x06; bound = 2 } ∷ record { inputs = 0x00; outputs = 0x10; bound = 4 } ∷ record { inputs = 0x02; outputs = 0x28; bound = 2 } ∷ [];
-  ties = ties;
-}
+benches ties = record { variables = 6; environment = 1; root = 0; processes = plain 0x01 0x06 2 ∷ plain 0x00 0x10 4 ∷ plain 0x02 0x28 2 ∷ []; ties = ties }
 
 -- processes 0 and 2 tied
 abbrev pub tied : Architecture
@@ -90,7 +127,7 @@ alike = 0x08 ∷ 0 ∷ 1 ∷ 0x28 ∷ 1 ∷ 0 ∷ []
 
 -- a process without inputs, of one state
 abbrev pub owner : ℕ → Process
-owner outputs = record { inputs = 0x00; outputs = outputs; bound = 1 }
+owner outputs = plain 0x00 outputs 1
 
 -- three processes in a chain
 abbrev pub chained : Architecture
@@ -108,6 +145,10 @@ ar variables environment root = 0x41 ∷ 0x52 ∷ variables ∷ environment ∷ 
 -- PR: input mask, output mask, bound
 abbrev pub pr : ℕ → ℕ → ℕ → List ℕ
 pr inputs outputs bound = 0x50 ∷ 0x52 ∷ inputs ∷ outputs ∷ bound ∷ []
+
+-- PM: the same, and the prompt mask
+abbrev pub pm : ℕ → ℕ → ℕ → ℕ → List ℕ
+pm inputs outputs bound prompts = 0x50 ∷ 0x4D ∷ inputs ∷ outputs ∷ bound ∷ prompts ∷ []
 
 -- SY: two processes
 abbrev pub sy : ℕ → ℕ → List ℕ
@@ -161,6 +202,22 @@ behindPR more = ar 6 1 0 ++ pr 0x01 0x06 2 ++ pr 0x00 0x10 4 ++ pr 0x02 0x28 2 +
 abbrev pub unalike : ℕ → ℕ → List ℕ
 unalike left right = ar 8 1 0 ++ pr 0x01 0x06 2 ++ pr 0x01 0x18 3 ++ pr 0x03 0x60 2 ++ pr 0x01 0x80 2 ++ sy left right
 
+-- the front of `prompted`
+abbrev pub frontOf : ℕ → ℕ → List ℕ
+frontOf prompts₁ prompts₂ = ar 4 1 0 ++ pr 0x09 0x02 4 ++ pm 0x03 0x04 4 prompts₁ ++ pm 0x06 0x08 4 prompts₂
+
+-- variable 0 is the environment's, 1 of process 0, and 2 and 3 have no owner yet; behind the PR these bytes
+abbrev pub behindOwner : List ℕ → List ℕ
+behindOwner more = ar 4 1 0 ++ pr 0x01 0x02 1 ++ more
+
+-- a row of four processes of both kinds, and behind them these bytes
+abbrev pub behindFour : List ℕ → List ℕ
+behindFour more = ar 0 0 0 ++ pr 0 0 1 ++ pm 0 0 1 0 ++ pr 0 0 1 ++ pm 0 0 1 0 ++ more
+
+-- variables 0 and 1 are of process 0; behind it these two, which are tied and own variables 2 and 3
+abbrev pub tiedBehind : List ℕ → List ℕ
+tiedBehind records = ar 4 0 0 ++ pr 0x00 0x03 1 ++ records ++ sy 1 2 ++ au 1 0 0 ++ en
+
 -- case S
 abbrev pub caseS : List ℕ
 caseS = sheetS tieS []
@@ -205,6 +262,21 @@ pub record Pinned : Type 0 where
   pub root-kept : initial pair ≡ at 1 0 0
   -- the direction is new and the outputs are old: not the present environment (0), nor the outputs after the step (0, 0)
   pub stepped : step pair tables (at 1 0 1) 0 ≡ at 0 1 2
+  -- what is read: prompt inputs from the new values, all others from the old ones, whatever the other values are
+  pub reads-both : reads (prompt 0x0F 0x10 1 0x0F) 0xAA 0xCC ≡ 0xAC
+  pub reads-old : reads (prompt 0x0F 0x10 1 0x00) 0xAA 0xCC ≡ 0xAA
+  -- a value that rises: process 1 reads variable 1 as it is after the step, and process 2 as it was before, but variable 2 after the step, all by one direction
+  pub chain-risen : step (prompted 0x02 0x04) notes (atAll 0 0 0 0) 1 ≡ atAll 1 1 3 2
+  -- values that fall: not the old ones, nor old and new joined; process 0 reads variable 3 as it was
+  pub chain-fallen : step (prompted 0x02 0x04) notes (atAll 1 1 2 1) 0 ≡ atAll 0 2 0 1
+  -- the new outputs of both, not of the process before alone
+  pub both-new : step (prompted 0x02 0x06) notes (atAll 0 0 0 0) 1 ≡ atAll 1 1 3 3
+  -- a PM with mask 00 steps as a PR
+  pub none-prompt : step (prompted 0x00 0x00) notes (atAll 0 0 2 0) 1 ≡ atAll 1 1 1 2
+  pub as-PR : step delayed notes (atAll 0 0 2 0) 1 ≡ atAll 1 1 1 2
+  -- what process 2 reads in the first of these steps: variables 0 and 2, and not 1; and a next state, from the row of the process's own state
+  pub read-by : readBy (prompted 0x02 0x04) notes (atAll 0 0 0 0) 1 2 ≡ 0x05
+  pub next-of : nextOf pair tables (at 1 0 1) 1 0x05 ≡ 2
   -- entries: the states of a process together, not those of all processes; in a row the mask first
   pub entries-in-order : entries pair ≡ rowOf 0x02 4 2 ++ rowOf 0x02 4 2 ++ rowOf 0x04 2 3 ++ rowOf 0x04 2 3 ++ rowOf 0x04 2 3
   -- fewer states: the rows of zeros stand behind those of their process, not before them and not behind all
@@ -213,7 +285,9 @@ pub record Pinned : Type 0 where
   -- a bound that is higher: no row is taken from the next process
   pub own-rows : padRows (replicate 3 two) (3 ∷ 1 ∷ 1 ∷ []) (0 ∷ 1 ∷ 0 ∷ 1 ∷ 0 ∷ 1 ∷ 0 ∷ 1 ∷ []) ≡ 0 ∷ 1 ∷ 0 ∷ 1 ∷ 0 ∷ 1 ∷ 0 ∷ 0 ∷ 0 ∷ 1 ∷ 0 ∷ 0 ∷ []
   -- a bound is lowered and never raised
-  pub never-raised : lowered (first ∷ second ∷ []) (5 ∷ 1 ∷ []) ≡ first ∷ record { inputs = 0x02; outputs = 0x04; bound = 1 } ∷ []
+  pub never-raised : lowered (first ∷ second ∷ []) (5 ∷ 1 ∷ []) ≡ first ∷ plain 0x02 0x04 1 ∷ []
+  -- the prompt inputs stay, and the kind
+  pub prompts-kept : lowered (prompt 0x03 0x04 2 0x02 ∷ prompt 0x00 0x08 2 0x00 ∷ []) (1 ∷ 1 ∷ []) ≡ prompt 0x03 0x04 1 0x02 ∷ prompt 0x00 0x08 1 0x00 ∷ []
   -- a table: masks packed to the process's own outputs, not as they stand nor moved down; next states as they are
   pub packed-first : tableOf tied (withLast alike) 0 ≡ 1 ∷ 0 ∷ 1 ∷ 3 ∷ 1 ∷ 0 ∷ []
   pub packed-last : tableOf tied (withLast (0x20 ∷ 0 ∷ 1 ∷ 0x08 ∷ 1 ∷ 1 ∷ [])) 2 ≡ 2 ∷ 0 ∷ 1 ∷ 1 ∷ 1 ∷ 1 ∷ []
@@ -283,6 +357,41 @@ pub record Pinned : Type 0 where
   -- case J: T is 256, proper; 5 with a third process of bound 2
   pub at-most-256 : replyCode (checkOf (sheetJ [])) ≡ 0
   pub above-256 : replyCode (checkOf (sheetJ (pr 0 0 2))) ≡ 5
+  -- PM: with its prompt mask and its kind, six bytes; a PR has five and no prompt inputs, whatever follows; prompt inputs of two processes
+  pub prompts-read : readFront (frontOf 0x02 0x06) ≡ proper record { architecture = prompted 0x02 0x06; end = 22 }
+  -- a PM with mask 00 is a PM too, and may be the first
+  pub prompts-none : readFront (ar 0 0 0 ++ pm 0x00 0x00 1 0x00) ≡ proper record { architecture = lone (prompt 0x00 0x00 1 0x00); end = 11 }
+  pub prompts-none-proper : replyCode (checkOf (ar 0 0 0 ++ pm 0 0 1 0 ++ au 1 0 0 ++ en)) ≡ 0
+  -- written so
+  pub process-written : processBytes (plain 0x03 0x04 2) ≡ pr 0x03 0x04 2
+  pub prompts-written : processBytes (prompt 0x03 0x04 2 0x02) ≡ pm 0x03 0x04 2 0x02
+  pub prompts-none-written : processBytes (prompt 0x03 0x04 2 0x00) ≡ pm 0x03 0x04 2 0x00
+  pub sheet-written : sheetBytes record { architecture = prompted 0x02 0x06; automaton = record { states = 1; initial = 0; rejecting = 0; edges = [] } } ≡ frontOf 0x02 0x06 ++ au 1 0 0 ++ en
+  -- the longest sheet has four PM
+  pub longest-sheet : length longest ≡ 433
+  -- 21: a prompt bit that is no input, though process 0 puts it out; one of the environment beside a good one; one of a process that follows; one above all
+  -- variables, beside a good one; its own output
+  pub prompt-no-input : replyCode (checkOf (behindOwner (pm 0x01 0x04 1 0x02))) ≡ 21
+  pub prompt-of-environment : replyCode (checkOf (behindOwner (pm 0x03 0x04 1 0x03))) ≡ 21
+  pub prompt-of-later : replyCode (checkOf (ar 3 1 0 ++ pm 0x04 0x02 1 0x04 ++ pr 0x01 0x04 1 ++ au 1 0 0 ++ en)) ≡ 21
+  pub prompt-unknown : replyCode (checkOf (behindOwner (pm 0x02 0x04 1 0x12))) ≡ 21
+  pub prompt-own : replyCode (checkOf (behindOwner (pm 0x02 0x04 1 0x04))) ≡ 21
+  -- 4 before 21: a field, and an output that is taken
+  pub field-before-prompt : replyCode (checkOf (behindOwner (pm 0x01 0x04 0 0x02))) ≡ 4
+  pub taken-before-prompt : replyCode (checkOf (behindOwner (pm 0x01 0x02 1 0x08))) ≡ 4
+  -- 21 before what is wrong with a process behind it, before 15 and before 5
+  pub prompt-before-process : replyCode (checkOf (behindOwner (pm 0x01 0x04 1 0x02 ++ pr 0x00 0x08 0))) ≡ 21
+  pub prompt-before-tie : replyCode (checkOf (behindOwner (pm 0x01 0x04 1 0x02 ++ sy 0 0))) ≡ 21
+  pub prompt-before-owner : replyCode (checkOf (behindOwner (pm 0x01 0x04 1 0x02 ++ au 1 0 0))) ≡ 21
+  -- 1: a PM cut off anywhere, whatever its fields
+  pub prompted-cut : map (λ n. replyCode (checkOf (behindOwner (take n (pm 0x80 0x02 9 0x80))))) (0 ∷ 1 ∷ 2 ∷ 3 ∷ 4 ∷ 5 ∷ 6 ∷ []) ≡ replicate 6 1 ++ (4 ∷ [])
+  -- four of both kinds; 2: a fifth of either kind, whatever its fields, or cut off; a PM behind an SY
+  pub four-processes : replyCode (checkOf (behindFour (au 1 0 0 ++ en))) ≡ 0
+  pub fifth-prompted : replyCode (checkOf (behindFour (pm 9 9 9 9))) ≡ 2
+  pub fifth-prompted-cut : replyCode (checkOf (behindFour (take 2 (pm 0 0 1 0)))) ≡ 2
+  pub fifth-plain : replyCode (checkOf (behindFour (pr 9 9 9))) ≡ 2
+  pub fifth-plain-cut : replyCode (checkOf (behindFour (take 2 (pr 0 0 1)))) ≡ 2
+  pub prompted-behind-tie : replyCode (checkOf (behindPR (sy 0 2 ++ take 2 (pm 0 0 1 0)))) ≡ 2
   -- ties: in file order, with other masks, their numbers in either order, and repeated
   pub ties-read : readFront (behindPR (sy 2 0 ++ sy 0 2 ++ sy 0 2)) ≡ proper record { architecture = benches (both 2 0 ∷ both 0 2 ∷ both 0 2 ∷ []); end = 32 }
   -- three of them, in a circle
@@ -296,6 +405,12 @@ pub record Pinned : Type 0 where
   pub no-left : replyCode (checkOf (unalike 4 0)) ≡ 15
   pub no-right : replyCode (checkOf (unalike 0 4)) ≡ 15
   pub neither : replyCode (checkOf (unalike 4 5)) ≡ 15
+  -- unequal places of prompt inputs, though it is one variable; a prompt input that the other has not
+  pub places-differ : replyCode (checkOf (tiedBehind (pm 0x03 0x04 1 0x02 ++ pm 0x06 0x08 1 0x02))) ≡ 15
+  pub prompt-alone : replyCode (checkOf (tiedBehind (pm 0x03 0x04 1 0x02 ++ pm 0x03 0x08 1 0x00))) ≡ 15
+  -- proper: prompt inputs at equal places, of other variables; a PM without prompt inputs, and a PR
+  pub places-agree : replyCode (checkOf (tiedBehind (pm 0x03 0x04 1 0x02 ++ pm 0x05 0x08 1 0x04))) ≡ 0
+  pub kinds-differ : replyCode (checkOf (tiedBehind (pm 0x03 0x04 1 0x00 ++ pr 0x06 0x08 1))) ≡ 0
   -- 15 before 5
   pub tie-before-owner : replyCode (checkOf (ar 1 0 0 ++ pr 0 0 1 ++ sy 0 0 ++ au 1 0 0)) ≡ 15
   -- 1: a third SY that is cut off, whatever its first number

@@ -1,4 +1,4 @@
--- 01, "Bench cases": the starred ones, and case S of tied processes, one table over the definitions of the calls.
+-- 01, "Bench cases": the starred ones, case S of tied processes and case P of a prompt input, one table over the definitions of the calls.
 use mathlib.Core.Path.{_≡_}
 use mathlib.Core.List.{List, [], _∷_, _++_}
 use Prim.Native.Nat.{ℕ}
@@ -10,7 +10,7 @@ use Rattle.model.specs.declared.Outcome.{Outcome}
 use Rattle.model.specs.RunGraph.{blank}
 use Rattle.model.specs.Calls.{AfterFind, AfterAnnotate, checkOf, findOf, judgeOf, annotateOf}
 use Rattle.model.specs.Numbers.{replyCode}
-use Rattle.model.specs.BenchCases.{sheetA, sheetC, sheetE, edge, sheetS, tieS, edgeS, bookA, annotationA, bookD, bookE, bookS}
+use Rattle.model.specs.BenchCases.{sheetA, sheetC, sheetE, edge, sheetS, tieS, edgeS, sheetP, bookA, annotationA, bookD, bookE, bookS, bookP, annotationP}
 
 -- a lent buffer of this length: it holds 7
 abbrev pub buffer : ℕ → List ℕ
@@ -108,4 +108,8 @@ starred =
     ∷ find (sheetS [] []) 14 2 (found (bookS 0x01 0x08) (0 ∷ blank ∷ []))
     ∷ find (sheetS tieS edgeS) 14 2 (none 14 2)
     ∷ annotate-leaves (sheetS tieS []) (bookS 0x01 0x02) 2 (looped 2)
+    -- P: found; its tables loop where process 1 reads variable 1 a step late
+    ∷ find (sheetP 0x02) 30 16 (found bookP annotationP)
+    ∷ annotate-leaves (sheetP 0x02) bookP 16 (annotated annotationP)
+    ∷ annotate-leaves (sheetP 0x00) bookP 16 (looped 16)
     ∷ []

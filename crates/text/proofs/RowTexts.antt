@@ -60,12 +60,12 @@ module _ (one : ℕ → Process → ℕ → List ℕ) (a : Architecture) where
   pub processes-open : (j : ℕ) → j < a .processes → Opens (processesFrom j) (one j (processIn a j) (entriesOf (firstIn a j))) (processesFrom (j + 1))
   unfolding eachProcess
   processes-open j h =
-      record { is = rw (start-next (a .inputs) (a .outputs) (a .bounds) j, process-next (a .inputs) (a .outputs) (a .bounds) (a .processes) j h, add-one j) }
+      record { is = rw (start-next (processIn a) j, process-next (processIn a) (a .processes) j h, add-one j) }
 
   -- no process is left
   pub processes-none : (j : ℕ) → a .processes ≡ j → processesFrom j ≡ []
   unfolding eachProcess
-  processes-none j e = rw (← e, processes-end (a .inputs) (a .outputs) (a .bounds) (a .processes))
+  processes-none j e = rw (← e, processes-end (processIn a) (a .processes))
 
 -- ---- edges
 module _ (ed ex : List ℕ) (u : Automaton) where

@@ -1,14 +1,14 @@
 -- How long the texts of numbers, of processes and of edges are together, where each has at most so many bytes.
 use mathlib.Core.Path.{refl}
 use mathlib.Core.Bool.{Bool, true, false}
-use mathlib.Core.List.{List, [], _∷_, List·Memᴰ·head, List·Memᴰ·tail}
+use mathlib.Core.List.{List, [], _∷_, List·Memᴰ, List·Memᴰ·head, List·Memᴰ·tail}
 use Prim.Native.Nat.{ℕ, zero, suc, _+_, _*_, _^_, _<_, _≤_}
 use native.Mathlib.Nat.{suc-mul}
 use native.Mathlib.Omega.{arith}
 use lib.Pow.{pow-mono}
 use lib.ListN.{length, length-append}
 use Rattle.model.specs.Mask.{if}
-use Rattle.model.specs.Sheet.{Process, Edge, ProperProcess, ProperProcesses, ProperEdge, ProperEdges}
+use Rattle.model.specs.Sheet.{Process, Edge, ProperEdge, ProperEdges}
 use Rattle.model.specs.Compose.{processLength}
 use Rattle.template.proofs.FilledShort.{longest, filled-short}
 use Rattle.text.specs.Rows.{eachFrom, eachProcess, edgeText, edgesText}
@@ -20,8 +20,8 @@ module _ (one : ℕ → List ℕ) (m limit : ℕ) (short : (x : ℕ) → x < lim
   from-short (suc n) x h =
       omega (arith, length-append (one x) (eachFrom one n (suc x)), short x (omega arith), from-short n (suc x) (omega arith), suc-mul n m)
 
-module _ {v e : ℕ} (one : ℕ → Process → ℕ → List ℕ) (m limit : ℕ) (short : (i : ℕ) (p : Process) (at : ℕ) → i < limit → ProperProcess v e p → length (one i p at) ≤ m) where
-  pub processes-short : (i : ℕ) (ps : List Process) (at : ℕ) → ProperProcesses v e ps → i + length ps ≤ limit → length (eachProcess one i ps at) ≤ length ps * m
+module _ {P : Process → Type 0} (one : ℕ → Process → ℕ → List ℕ) (m limit : ℕ) (short : (i : ℕ) (p : Process) (at : ℕ) → i < limit → P p → length (one i p at) ≤ m) where
+  pub processes-short : (i : ℕ) (ps : List Process) (at : ℕ) → ((p : Process) → List·Memᴰ p ps → P p) → i + length ps ≤ limit → length (eachProcess one i ps at) ≤ length ps * m
   unfolding eachProcess
   processes-short i [] at g h = omega arith
   processes-short i (p ∷ ps) at g h =

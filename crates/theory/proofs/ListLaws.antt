@@ -2,7 +2,7 @@
 use mathlib.Core.Path.{_≡_, refl, sym, ap, ap₂, _∙_, subst}
 use mathlib.Core.Bool.{Bool, true, false, _&&_, _||_, or-true, true≢false}
 use mathlib.Core.Logic.{_⊎_, inl, inr, ⊎-elim, _↔_}
-use mathlib.Core.List.{List, [], _∷_, _++_, List·Memᴰ, List·Memᴰ·head, List·Memᴰ·tail, List·Memᴰ·not-nil, List·Memᴰ·cases-cons, List·Memᴰ·append-cases, Memᴰ·append-left, Memᴰ·append-right}
+use mathlib.Core.List.{List, [], _∷_, _++_, append-nil, append-assoc, List·Memᴰ, List·Memᴰ·head, List·Memᴰ·tail, List·Memᴰ·not-nil, List·Memᴰ·cases-cons, List·Memᴰ·append-cases, Memᴰ·append-left, Memᴰ·append-right}
 use Prim.Native.Nat.{ℕ, zero, suc, _+_, _≤_, _<_, max}
 use native.Mathlib.Numerals.{add-one}
 use native.Mathlib.Omega.{arith}
@@ -12,7 +12,7 @@ use lib.ListN.{length, getD, take, drop, length-append, drop-of-length-le, List�
 use lib.Seq.{drop-cons, getD-at, getD-take, length-take-le}
 use borrow.Author.Tests.{eqb-true, eq-eqb}
 use Rattle.theory.proofs.Bools.{and-is}
-use Rattle.theory.specs.Lists.{Distinct, none, one-more, Pairwise, empty, before, from, below, one, put, filter, count, member, tab, greatest, all, same}
+use Rattle.theory.specs.Lists.{Distinct, none, one-more, Pairwise, empty, before, InTurn, done, and-then, from, below, one, put, filter, count, member, tab, greatest, all, same}
 
 abbrev Subset : List ℕ → List ℕ → Type 0
 Subset xs ys = (x : ℕ) → List·Memᴰ x xs → List·Memᴰ x ys
@@ -281,6 +281,19 @@ pub pairwise-append : {A : Type 0} {R : A → A → Type 0} {xs ys : List A} →
 pairwise-append empty o h = o
 pairwise-append (before {x = x} {xs = xs} k p) o h =
     before (λ y m. ⊎-elim (λ i. k y i) (λ i. h x y (List·Memᴰ·head refl) i) (List·Memᴰ·append-cases xs m)) (pairwise-append p o (λ u v i j. h u v (List·Memᴰ·tail i) j))
+
+-- ---- what holds of each element in turn: one more behind them, those in front, and the one behind these
+pub turn-more : {A : Type 0} {P : List A → A → Type 0} {first xs : List A} {x : A} → InTurn P first xs → P (first ++ xs) x → InTurn P first (xs ++ (x ∷ []))
+turn-more {P = P} {x = x} (done {first = first}) p = and-then (subst (λ l. P l x) (append-nil first) p) done
+turn-more {P = P} {x = x} (and-then {first = first} {x = y} {xs = xs} q t) p = and-then q (turn-more t (subst (λ l. P l x) (sym (append-assoc first (y ∷ []) xs)) p))
+
+pub turn-front : {A : Type 0} {P : List A → A → Type 0} {first : List A} (xs ys : List A) → InTurn P first (xs ++ ys) → InTurn P first xs
+turn-front [] ys t = done
+turn-front (x ∷ xs) ys (and-then p t) = and-then p (turn-front xs ys t)
+
+pub turn-last : {A : Type 0} {P : List A → A → Type 0} {first : List A} (xs ys : List A) {x : A} → InTurn P first (xs ++ (x ∷ ys)) → P (first ++ xs) x
+turn-last {P = P} {first} [] ys {x} (and-then p t) = subst (λ l. P l x) (sym (append-nil first)) p
+turn-last {P = P} {first} (y ∷ xs) ys {x} (and-then p t) = subst (λ l. P l x) (append-assoc first (y ∷ []) xs) (turn-last xs ys t)
 
 -- ---- the first n elements, from j on and from j + 1 on
 pub taken-next : (xs : List ℕ) (n j : ℕ) → j < n → n ≤ length xs → drop j (take n xs) ≡ getD xs j 0 ∷ drop (j + 1) (take n xs)

@@ -49,18 +49,18 @@ leadersFrom a i = entryLeadersOf (processesIn a) (drop i (processesIn a)) (drop 
 -- before the first
 pub leaders-all : (a : Architecture) → leadersFrom a 0 ≡ entryLeaders (architectureOf a)
 unfolding entryLeaders architectureOf
-leaders-all a = rw (processes-length (a .processes) (a .inputs) (a .outputs) (a .bounds))
+leaders-all a = rw (processes-length (a .processes) (processIn a))
 
 -- behind the last
 pub leaders-none : (a : Architecture) (i : ℕ) → i ≡ a .processes → leadersFrom a i ≡ []
 unfolding entryLeadersOf
-leaders-none a i e = rw (e, processes-end (a .inputs) (a .outputs) (a .bounds) (a .processes))
+leaders-none a i e = rw (e, processes-end (processIn a) (a .processes))
 
 module _ (a : Architecture) (z : IsProper a) where
   there : AllThere (a .processes) (tiesIn a)
   unfolding architectureOf
   there t m =
-      let long = processes-length (a .processes) (a .inputs) (a .outputs) (a .bounds) in
+      let long = processes-length (a .processes) (processIn a) in
       let p = z .proper .front .ties-proper t m in
       (omega (arith, long, p .left-known), omega (arith, long, p .right-known))
 
@@ -99,4 +99,4 @@ module _ (a : Architecture) (z : IsProper a) where
         let ls = leaders (a .processes) (tiesIn a) in
         let next : drop i ls ≡ getD ls i 0 ∷ drop (i + 1) ls = rw (add-one i) (drop-cons ls i 0 (omega (arith, lead .long))) in
         let begin : first ≡ begins (processesIn a) (getD ls i 0) = ef ∙ begins-are a (getD own i 0) (omega (arith, own-there)) ∙ ap (begins (processesIn a)) own-leader in
-        record { is = rw (process-next (a .inputs) (a .outputs) (a .bounds) (a .processes) i h, next, ec, begin) }
+        record { is = rw (process-next (processIn a) (a .processes) i h, next, ec, begin) }

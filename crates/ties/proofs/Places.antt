@@ -79,13 +79,13 @@ begins-rise (p ∷ ps) (suc i) (suc j) l = omega (arith, begins-rise ps i j (ome
 
 -- ---- processes of the same shape
 pub shape-itself : (p : Process) → SameShape p p
-shape-itself p = record { bounds = refl; inputs = refl; outputs = refl }
+shape-itself p = record { bounds = refl; inputs = refl; outputs = refl; prompts = refl }
 
 pub shape-turn : {p q : Process} → SameShape p q → SameShape q p
-shape-turn h = record { bounds = sym (h .bounds); inputs = sym (h .inputs); outputs = sym (h .outputs) }
+shape-turn h = record { bounds = sym (h .bounds); inputs = sym (h .inputs); outputs = sym (h .outputs); prompts = sym (h .prompts) }
 
 pub shape-chain : {p q r : Process} → SameShape p q → SameShape q r → SameShape p r
-shape-chain h k = record { bounds = h .bounds ∙ k .bounds; inputs = h .inputs ∙ k .inputs; outputs = h .outputs ∙ k .outputs }
+shape-chain h k = record { bounds = h .bounds ∙ k .bounds; inputs = h .inputs ∙ k .inputs; outputs = h .outputs ∙ k .outputs; prompts = h .prompts ∙ k .prompts }
 
 pub shape-length : (p q : Process) → SameShape p q → processLength p ≡ processLength q
 unfolding processLength rowLength

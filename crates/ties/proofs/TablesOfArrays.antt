@@ -33,11 +33,11 @@ begins-next (p ∷ ps) (suc i) = omega (arith, begins-next ps i)
 
 module _ (a : Architecture) where
   process-there : (i : ℕ) → i < a .processes → processNo (processesIn a) i ≡ processIn a i
-  process-there i h = processes-at (a .inputs) (a .outputs) (a .bounds) (a .processes) i nobody h
+  process-there i h = processes-at (processIn a) (a .processes) i nobody h
 
   pub lengths-are : (i : ℕ) → i < a .processes → lengthOf (processesIn a) i ≡ processLength (processIn a i)
   lengths-are i h =
-      length-is (processesIn a) i (omega (arith, processes-length (a .processes) (a .inputs) (a .outputs) (a .bounds))) ∙ ap processLength (process-there i h)
+      length-is (processesIn a) i (omega (arith, processes-length (a .processes) (processIn a))) ∙ ap processLength (process-there i h)
 
   pub begins-are : (i : ℕ) → i ≤ a .processes → entriesOf (firstIn a i) ≡ begins (processesIn a) i
   unfolding processesOf entriesOf
@@ -47,18 +47,18 @@ module _ (a : Architecture) where
   module _ (i : ℕ) (h : i < a .processes) where
     -- the entries of a process are among all
     own-within : entriesOf (firstIn a i) + processLength (processIn a i) ≤ length (entries (architectureOf a))
-    own-within = omega (arith, starts-at a (i + 1) (omega arith), start-next (a .inputs) (a .outputs) (a .bounds) i, entries-are a)
+    own-within = omega (arith, starts-at a (i + 1) (omega arith), start-next (processIn a) i, entries-are a)
 
     pub own-few : IsProper a → entriesOf (firstIn a i) + processLength (processIn a i) ≤ 272
-    own-few z = omega (arith, start-few a z (i + 1) (omega arith), start-next (a .inputs) (a .outputs) (a .bounds) i, z .arrays .few-processes)
+    own-few z = omega (arith, start-few a z (i + 1) (omega arith), start-next (processIn a) i, z .arrays .few-processes)
 
 -- ---- the processes of a tie
 module _ (a : Architecture) (t : Tie) (proper : ProperTie (processesIn a) t) where
   pub tie-left : t .left < a .processes
-  tie-left = omega (arith, proper .left-known, processes-length (a .processes) (a .inputs) (a .outputs) (a .bounds))
+  tie-left = omega (arith, proper .left-known, processes-length (a .processes) (processIn a))
 
   pub tie-right : t .right < a .processes
-  tie-right = omega (arith, proper .right-known, processes-length (a .processes) (a .inputs) (a .outputs) (a .bounds))
+  tie-right = omega (arith, proper .right-known, processes-length (a .processes) (processIn a))
 
   -- they have equally many entries
   pub tie-long : processLength (processIn a (t .left)) ≡ processLength (processIn a (t .right))

@@ -62,7 +62,7 @@ module _ (c : tie.After-row-length Inv-loop μ-loop) where
   inside = omega (arith, turn .loop-test .taken, entry .pre .1)
 
   row-known : c .row-length .result ≡ rowLength p
-  row-known = let a = entry .args .a in row-is (a .inputs) (a .outputs) (a .bounds) (turn .before .loop .k) _ _ (c .before .inputs-of .ensures) (c .row-length .ensures)
+  row-known = let a = entry .args .a in row-is (processIn a) (turn .before .loop .k) _ _ (c .before .inputs-of .ensures) (c .row-length .ensures)
 
   size-known : size ≡ recordsLength p
   unfolding recordsLength
@@ -103,7 +103,7 @@ loop-again c =
     let l = turn c .before .loop in
     let a = entry c .args .a in
     let h = turn c .loop-test .taken in
-    let next = process-next (a .inputs) (a .outputs) (a .bounds) (a .processes) (l .k) (inside c) in (
+    let next = process-next (processIn a) (a .processes) (l .k) (inside c) in (
       omega (arith, h),
       (omega (arith, l .inv .1 .0, few c), omega (arith, size-known c, part-turn (p c) (drop (l .k + 1) (processesIn a)) (entry c .args .i) (l .k) h, rw next at (l .inv .1 .1))),
     )

@@ -72,7 +72,7 @@ module _ (c : tie.At-loop Inv-loop μ-loop) where
   row-known : map kindCode (row p) ≡ rowCodes (p .outputs) (p .bound) states
   row-known =
       let a = entry .args .a in
-      row-codes p _ (row-is (a .inputs) (a .outputs) (a .bounds) (entry .args .i) _ _ (c .before .before .before .before .inputs-of .ensures) (c .before .before .before .row-length .ensures))
+      row-codes p _ (row-is (processIn a) (entry .args .i) _ _ (c .before .before .before .before .inputs-of .ensures) (c .before .before .before .row-length .ensures))
 
   so-far : Appending (entry .args .kinds .now) (entry .args .start) (processCodes (entry .args .a) (entry .args .i)) (c .loop .at) (c .loop .kinds)
       (map kindCode (times (p .bound - c .loop .x) (row p)))

@@ -5,7 +5,7 @@ use Prim.Native.Nat.{ℕ, _+_, _≤_}
 use native.Mathlib.Omega.{arith}
 use lib.ListN.{length}
 use borrow.Author.Needs.{needs}
-use Rattle.architecture.specs.Struct.{architectureOf, processesIn}
+use Rattle.architecture.specs.Struct.{processIn, architectureOf, processesIn}
 use Rattle.architecture.proofs.ProcessesOfArrays.{processes-length}
 use Rattle.automaton.specs.Struct.{automatonOf}
 use Rattle.append.proofs.Appended.{room-front, append-more, append-room}
@@ -19,7 +19,7 @@ module _ (b : tie.Start) where
   front = let a = b .args .sheet .architecture in graphFront (a .variables) (a .environment) (a .processes) (b .args .sheet .automaton .states)
 
   counted : length (processesIn (b .args .sheet .architecture)) ≡ b .args .sheet .architecture .processes
-  counted = let a = b .args .sheet .architecture in processes-length (a .processes) (a .inputs) (a .outputs) (a .bounds)
+  counted = let a = b .args .sheet .architecture in processes-length (a .processes) (processIn a)
 
   room : 0 + length (front ++ automatonText (automatonOf (b .args .sheet .automaton))) ≤ length (b .args .text .now)
   unfolding startText architectureOf automatonOf

@@ -57,7 +57,7 @@ module _ (c : tie.At-loop Inv-loop μ-loop) where
   row-known : c .before .before .row-length .result ≡ rowLength p
   row-known =
       let a = entry .args .a in
-      row-is (a .inputs) (a .outputs) (a .bounds) (entry .args .i) _ _ (c .before .before .before .inputs-of .ensures) (c .before .before .row-length .ensures)
+      row-is (processIn a) (entry .args .i) _ _ (c .before .before .before .inputs-of .ensures) (c .before .before .row-length .ensures)
 
   few : p .bound ≤ 4
   few = facts (entry .pre .0) .few-states (entry .args .i) (entry .pre .1 .0)

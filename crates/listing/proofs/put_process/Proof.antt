@@ -1,8 +1,57 @@
--- `listing::put_process` meets its contract: the fields are those of the process.
+-- `listing::put_process` meets its contract: the fields are those of the process, and its kind tells the line.
+use mathlib.Core.Path.{_≡_, sym, ap, _∙_}
+use mathlib.Core.Bool.{Bool, true, false}
+use mathlib.Core.List.{List, [], _∷_}
+use Prim.Native.Nat.{ℕ}
 use borrow.Author.Needs.{needs}
+use Rattle.model.specs.Ascii.{ascii}
+use Rattle.model.specs.Mask.{if}
+use Rattle.architecture.specs.Struct.{processIn}
+use Rattle.template.specs.Template.{filled}
+use Rattle.listing.specs.Listing.{prText, pmText, processText}
 use Rattle.listing.proofs.put_process.Statement.{statement}
 use Rattle.listing.proofs.put_process.Tie as tie
 
+-- ---- the position where all fields are read
+abbrev Read : Type 0
+Read = tie.After-prompted-of
+
+abbrev entry : Read → tie.Start
+entry c = c .before .before .before .before .before .before
+
+abbrev number : Read → ℕ
+number c = entry c .args .i
+
+abbrev text : Read → List ℕ
+text c = processText (number c) (processIn (entry c .args .a) (number c))
+
+of-kind : (c : Read) (t : Bool) → c .prompted-of .result ≡ t → let p = processIn (entry c .args .a) (number c) in text c ≡ if t (pmText (number c) p) (prText (number c) p)
+unfolding processText
+of-kind c t e = let p = processIn (entry c .args .a) (number c) in ap (λ (t : Bool). if t (pmText (number c) p) (prText (number c) p)) (sym (c .prompted-of .ensures) ∙ e)
+
+-- the line of a PM, and that of a PR
+pm : (c : Read) → c .prompted-of .result ≡ true
+    → let o = c .before .before .before in
+    text c ≡ filled (ascii "process # reads @ prompt @ sets @ states #\n")
+    (number c ∷ o .before .inputs-of .result ∷ c .before .prompts-of .result ∷ o .outputs-of .result ∷ c .before .before .bound-of .result ∷ [])
+unfolding if
+pm c e =
+    let o = c .before .before .before in
+    of-kind c true e
+    ∙ (λ j. filled (ascii "process # reads @ prompt @ sets @ states #\n")
+    (number c ∷ sym (o .before .inputs-of .ensures) j ∷ sym (c .before .prompts-of .ensures) j ∷ sym (o .outputs-of .ensures) j ∷ sym (c .before .before .bound-of .ensures) j ∷ []))
+
+pr : (c : Read) → c .prompted-of .result ≡ false
+    → let o = c .before .before .before in
+    text c ≡ filled (ascii "process # reads @ sets @ states #\n") (number c ∷ o .before .inputs-of .result ∷ o .outputs-of .result ∷ c .before .before .bound-of .result ∷ [])
+unfolding if
+pr c e =
+    let o = c .before .before .before in
+    of-kind c false e
+    ∙ (λ j. filled (ascii "process # reads @ sets @ states #\n")
+    (number c ∷ sym (o .before .inputs-of .ensures) j ∷ sym (o .outputs-of .ensures) j ∷ sym (c .before .before .bound-of .ensures) j ∷ []))
+
+-- ---- the needs
 -- `let inputs = a.inputs_of(i) as usize`
 inputs-of-requires : tie.Need-inputs-of-requires
 inputs-of-requires c κs = search needs
@@ -19,33 +68,61 @@ outputs-of-requires c κs = search needs
 cast-outputs : tie.Need-cast-outputs
 cast-outputs c = search needs
 
--- `b"process # reads @ sets @ states #\n"`
-slice-aggregate-put-filled : tie.Need-slice-aggregate-put-filled
-slice-aggregate-put-filled c = search needs
-
--- `&[i, inputs, outputs, a.bound_of(i)]`
+-- `let bound = a.bound_of(i)`
 bound-of-requires : tie.Need-bound-of-requires
 bound-of-requires c κs = search needs
 
--- `&[i, inputs, outputs, a.bound_of(i)]`
+-- `let prompts = a.prompts_of(i) as usize`
+prompts-of-requires : tie.Need-prompts-of-requires
+prompts-of-requires c κs = search needs
+
+-- `let prompts = a.prompts_of(i) as usize`
+cast-prompts : tie.Need-cast-prompts
+cast-prompts c = search needs
+
+-- `if a.prompted_of(i)`
+prompted-of-requires : tie.Need-prompted-of-requires
+prompted-of-requires c κs = search needs
+
+-- `b"process # reads @ prompt @ sets @ states #\n"`
+slice-aggregate-put-filled : tie.Need-slice-aggregate-put-filled
+slice-aggregate-put-filled c = search needs
+
+-- `&[i, inputs, prompts, outputs, bound]`
 slice-aggregate-put-filled-2 : tie.Need-slice-aggregate-put-filled-2
 slice-aggregate-put-filled-2 c = search needs
 
--- `put_filled(text, at, b"process # reads @ sets @ states #\n", &[i, inputs, outputs, a.bound_of(i)])`
+-- `return put_filled(text, at, b"process # reads @ prompt @ sets @ states #\n", &[i, inputs, prompts, outputs, bound])`
 put-filled-requires : tie.Need-put-filled-requires
-put-filled-requires c κs =
-    let o = c .before .before .before .before in
-    rw (o .before .inputs-of .ensures, o .outputs-of .ensures, c .before .bound-of .ensures) (c .before .before .before .before .before .before .before .pre .1 .1)
+put-filled-requires c κs = let t = c .before .before .before in rw (← pm (t .before) (t .if1 .taken)) (entry (t .before) .pre .1 .1)
 
--- `put_filled(text, at, b"process # reads @ sets @ states #\n", &[i, inputs, outputs, a.bound_of(i)])`
+-- `return put_filled(text, at, b"process # reads @ prompt @ sets @ states #\n", &[i, inputs, prompts, outputs, bound])`
 same-length : tie.Need-same-length
 same-length c = search needs
 
--- `put_filled(text, at, b"process # reads @ sets @ states #\n", &[i, inputs, outputs, a.bound_of(i)])`
+-- `return put_filled(text, at, b"process # reads @ prompt @ sets @ states #\n", &[i, inputs, prompts, outputs, bound])`
 returns : tie.Need-returns
-returns c =
-    let o = c .before .before .before .before .before .before .before in
-    rw (← o .before .inputs-of .ensures, ← o .outputs-of .ensures, ← c .before .before .before .before .bound-of .ensures) (c .before .before .put-filled .ensures)
+returns c = let t = c .before .before .before .before .before .before in rw (pm (t .before) (t .if1 .taken)) (c .before .before .put-filled .ensures)
+
+-- `b"process # reads @ sets @ states #\n"`
+slice-aggregate-put-filled-3 : tie.Need-slice-aggregate-put-filled-3
+slice-aggregate-put-filled-3 c = search needs
+
+-- `&[i, inputs, outputs, bound]`
+slice-aggregate-put-filled-4 : tie.Need-slice-aggregate-put-filled-4
+slice-aggregate-put-filled-4 c = search needs
+
+-- `put_filled(text, at, b"process # reads @ sets @ states #\n", &[i, inputs, outputs, bound])`
+put-filled-requires-2 : tie.Need-put-filled-requires-2
+put-filled-requires-2 c κs = let t = c .before .before .before in rw (← pr (t .before) (t .if1 .left)) (entry (t .before) .pre .1 .1)
+
+-- `put_filled(text, at, b"process # reads @ sets @ states #\n", &[i, inputs, outputs, bound])`
+same-length-2 : tie.Need-same-length-2
+same-length-2 c = search needs
+
+-- `put_filled(text, at, b"process # reads @ sets @ states #\n", &[i, inputs, outputs, bound])`
+returns-2 : tie.Need-returns-2
+returns-2 c = let t = c .before .before .before .before .before .before in rw (pr (t .before) (t .if1 .left)) (c .before .before .put-filled2 .ensures)
 
 pub put-process-spec : {M : Type 1} → statement M
 put-process-spec =
@@ -55,9 +132,17 @@ put-process-spec =
     cast-inputs
     outputs-of-requires
     cast-outputs
-    slice-aggregate-put-filled
     bound-of-requires
+    prompts-of-requires
+    cast-prompts
+    prompted-of-requires
+    slice-aggregate-put-filled
     slice-aggregate-put-filled-2
     put-filled-requires
     same-length
-    returns)
+    returns
+    slice-aggregate-put-filled-3
+    slice-aggregate-put-filled-4
+    put-filled-requires-2
+    same-length-2
+    returns-2)

@@ -3,7 +3,7 @@ use mathlib.Core.Path.{_≡_}
 use Prim.Native.Nat.{_+_, _-_, _*_, _≤_}
 use native.Mathlib.Omega.{arith}
 use lib.ListN.{drop}
-use Rattle.architecture.specs.Struct.{processesIn}
+use Rattle.architecture.specs.Struct.{processIn, processesIn}
 use Rattle.architecture.proofs.ProcessesOfArrays.{facts, process-next, processes-end}
 use Rattle.text.specs.Text.{rowCount}
 use Rattle.text.proofs.row_count.Statement.{statement}
@@ -46,7 +46,7 @@ loop-again c =
     let a = c .before .before .before .args .a in
     let l = c .before .before .loop in
     let h = c .before .loop-test .taken in
-    (omega arith, (omega (arith, few c), omega (arith, rw (process-next (a .inputs) (a .outputs) (a .bounds) (a .processes) (l .i) h) at (l .inv .1 .1), c .bound-of .ensures)))
+    (omega arith, (omega (arith, few c), omega (arith, rw (process-next (processIn a) (a .processes) (l .i) h) at (l .inv .1 .1), c .bound-of .ensures)))
 
 -- `rows`
 returns : tie.Need-returns Inv-loop μ-loop
@@ -55,7 +55,7 @@ returns c =
     let a = c .before .before .args .a in
     let l = c .before .loop in
     let e : l .i ≡ a .processes = omega arith in
-    omega (arith, rw (e, processes-end (a .inputs) (a .outputs) (a .bounds) (a .processes)) at (l .inv .1 .1))
+    omega (arith, rw (e, processes-end (processIn a) (a .processes)) at (l .inv .1 .1))
 
 pub row-count-spec : {M : Type 1} → statement M
 row-count-spec =

@@ -32,7 +32,7 @@ module _ (c : tie.After-row-length) where
   long : c .row-length .result ≡ rowLength (processIn (entry .args .a) (entry .args .i))
   long =
       let a = entry .args .a in
-      row-is (a .inputs) (a .outputs) (a .bounds) (entry .args .i) _ _ (c .before .inputs-of .ensures) (c .row-length .ensures)
+      row-is (processIn a) (entry .args .i) _ _ (c .before .inputs-of .ensures) (c .row-length .ensures)
 
   within : let p = processIn (entry .args .a) (entry .args .i) in
       rowAt p (entriesOf (firstIn (entry .args .a) (entry .args .i))) (entry .args .x .0) + rowLength p ≤ length (entry .args .tables .now)

@@ -30,8 +30,8 @@ part : (c : tie.After-row-length) → c .before .before .bound-of .result * c .r
 part c =
     let a = entry c .args .a in
     let i = entry c .args .i in
-    let row = row-is (a .inputs) (a .outputs) (a .bounds) i _ _ (c .before .inputs-of .ensures) (c .row-length .ensures) in
-    length-is (a .inputs) (a .outputs) (a .bounds) i _ _ (c .before .before .bound-of .ensures) row
+    let row = row-is (processIn a) i _ _ (c .before .inputs-of .ensures) (c .row-length .ensures) in
+    length-is (processIn a) i _ _ (c .before .before .bound-of .ensures) row
 
 -- `a.bound_of(i) * architecture::row_length(a.inputs_of(i))`
 mul-result : tie.Need-mul-result

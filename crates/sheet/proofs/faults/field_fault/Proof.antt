@@ -7,6 +7,7 @@ use borrow.Author.Tests.{lt-ltb, le-ltb, eq-eqb, ne-eqb}
 use borrow.Author.Needs.{needs}
 use Rattle.model.specs.Mask.{share, beyond, count}
 use Rattle.model.specs.Reading.{fieldFault}
+use Rattle.architecture.specs.Struct.{processOf}
 use Rattle.sheet.proofs.faults.field_fault.Statement.{statement}
 use Rattle.sheet.proofs.faults.field_fault.Tie as tie
 
@@ -23,23 +24,27 @@ second c = c .before .before
 abbrev start : tie.Else3 → tie.Start
 start c = entry (first (second c))
 
-inputs-known : (c : tie.Else1) → beyond (entry c .args .inputs) (entry c .args .variables) ≡ false
+inputs-known : (c : tie.Else1) → beyond (entry c .args .process .inputs) (entry c .args .variables) ≡ false
 inputs-known c = sym (c .before .is-beyond .ensures) ∙ c .if1 .left
 
-outputs-known : (c : tie.Else2) → let a = entry (first c) .args in beyond (a .outputs) (a .variables) ≡ false
+outputs-known : (c : tie.Else2) → let a = entry (first c) .args in beyond (a .process .outputs) (a .variables) ≡ false
 outputs-known c = sym (c .before .is-beyond2 .ensures) ∙ c .if2 .left
 
-own-outputs : (c : tie.Else3) → let a = start c .args in share (a .outputs) (2 ^ a .environment - 1) ≡ false
+own-outputs : (c : tie.Else3) → let a = start c .args in share (a .process .outputs) (2 ^ a .environment - 1) ≡ false
 unfolding share
 own-outputs c = simp (sym (c .before .lowest .ensures), eq-eqb _ _ (c .if3 .left))
 
 -- few inputs: the other tests decide
 rest : (c : tie.Else4) → let a = start (c .before) .args in
-    fieldFault (a .variables) (a .environment) (record { inputs = a .inputs; outputs = a .outputs; bound = a .bound }) ≡ (share (a .inputs) (a .outputs) || eqb (a .bound) 0 || ltb 4 (a .bound))
+    let p = a .process in fieldFault (a .variables) (a .environment) (processOf p) ≡ (share (p .inputs) (p .outputs) || eqb (p .bound) 0 || ltb 4 (p .bound))
 unfolding fieldFault count
 rest c = let d = c .before in simp (inputs-known (first (second d)), outputs-known (second d), own-outputs d, le-ltb _ _ (c .if4 .left))
 
 -- ---- the needs
+-- `if is_beyond(inputs as u16, variables)`
+cast-is-beyond : tie.Need-cast-is-beyond
+cast-is-beyond c = search needs
+
 -- `if is_beyond(inputs as u16, variables)`
 is-beyond-requires : tie.Need-is-beyond-requires
 is-beyond-requires c κs = search needs
@@ -48,6 +53,10 @@ is-beyond-requires c κs = search needs
 returns : tie.Need-returns
 unfolding fieldFault
 returns c = simp (sym (c .before .is-beyond .ensures) ∙ c .if1 .taken)
+
+-- `if is_beyond(outputs as u16, variables)`
+cast-is-beyond-2 : tie.Need-cast-is-beyond-2
+cast-is-beyond-2 c = search needs
 
 -- `if is_beyond(outputs as u16, variables)`
 is-beyond-requires-2 : tie.Need-is-beyond-requires-2
@@ -91,8 +100,10 @@ pub field-fault-spec : {M : Type 1} → statement M
 field-fault-spec =
     tie.close
     (tie.spec
+    cast-is-beyond
     is-beyond-requires
     returns
+    cast-is-beyond-2
     is-beyond-requires-2
     returns-2
     lowest-requires

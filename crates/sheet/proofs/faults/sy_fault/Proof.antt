@@ -17,7 +17,7 @@ use Rattle.sheet.proofs.faults.sy_fault.Tie as tie
 tests : (a : Architecture) (x y : ℕ) → tieFault (processesIn a) record { left = x; right = y }
     ≡ (leb (a .processes) x || leb (a .processes) y || eqb x y || unlike (processNo (processesIn a) x) (processNo (processesIn a) y))
 unfolding tieFault
-tests a x y = rw (processes-length (a .processes) (a .inputs) (a .outputs) (a .bounds))
+tests a x y = rw (processes-length (a .processes) (processIn a))
 
 -- `return true`
 returns : tie.Need-returns
@@ -46,7 +46,7 @@ returns-4 c =
     let d = c .before in
     let a = d .before .before .before .args in
     let m = a .architecture in
-    let there : (k : ℕ) → k < m .processes → processNo (processesIn m) k ≡ processIn m k = λ k h. processes-at (m .inputs) (m .outputs) (m .bounds) (m .processes) k nobody h in
+    let there : (k : ℕ) → k < m .processes → processNo (processesIn m) k ≡ processIn m k = λ k h. processes-at (processIn m) (m .processes) k nobody h in
     rw (tests m (a .left) (a .right), there (a .left) (d .before .before .if1 .left), there (a .right) (d .before .if2 .left))
     (simp (lt-leb _ _ (d .before .before .if1 .left), lt-leb _ _ (d .before .if2 .left), ne-eqb _ _ (d .if3 .left)) (c .is-unlike .ensures))
 

@@ -6,8 +6,7 @@ use Prim.Native.Nat.{ℕ, _+_, _-_, _<_}
 use native.Mathlib.Omega.{arith}
 use borrow.Author.Needs.{needs}
 use borrow.Author.Tests.{not-true, not-false}
-use Rattle.model.specs.Reading as model
-use Rattle.model.specs.Reading.{Front, PR, readProcesses}
+use Rattle.model.specs.Reading.{Front, processMarked, readProcesses}
 use Rattle.architecture.specs.Struct.{architectureOf}
 use Rattle.sheet.specs.declared.FrontRead.{FrontRead}
 use Rattle.sheet.proofs.RefusalTests.{fails, passes}
@@ -18,12 +17,12 @@ use Rattle.sheet.proofs.front.read_processes.Statement.{statement}
 use Rattle.sheet.proofs.front.read_processes.Tie as tie
 
 abbrev Inv-loop : tie.InvT-loop
-Inv-loop sheet read₀ t5 read = RecordsRead sheet (λ k a i. readProcesses k a sheet i) 4 (read .architecture .processes) read₀ read
+Inv-loop sheet read₀ read = RecordsRead sheet (λ k a i. readProcesses k a sheet i) 4 (read .architecture .processes) read₀ read
 
 abbrev μ-loop : tie.MeasureT-loop
-μ-loop sheet read₀ t5 read = 4 - read .architecture .processes
+μ-loop sheet read₀ read = 4 - read .architecture .processes
 
--- ---- the positions: the loop's head, and a PR
+-- ---- the positions: the loop's head, and a process
 abbrev Head : Type 0
 Head = tie.At-loop Inv-loop μ-loop
 
@@ -35,20 +34,20 @@ module _ (l : Head) where
   read = l .loop .read
 
 abbrev Asked : Type 0
-Asked = tie.After-is-marked Inv-loop μ-loop
+Asked = tie.After-is-process Inv-loop μ-loop
 
 abbrev head : Asked → Head
-head c = c .before .before .before .before
+head c = c .before .before .before
 
 room : (c : Asked) → read (head c) .architecture .processes < 4
-room c = c .before .before .if1 .taken
+room c = c .before .if1 .taken
 
 abbrev Marked : Type 0
 Marked = tie.Else2 Inv-loop μ-loop
 
 -- the mark is there
-is-there : (c : Marked) → let l = head (c .before) in model.marked (bytes l) (read l .end) PR ≡ true
-is-there c = not-false _ (passes (c .before .is-marked .ensures) (c .if2 .left))
+is-there : (c : Marked) → let l = head (c .before) in processMarked (bytes l) (read l .end) ≡ true
+is-there c = not-false _ (passes (c .before .is-process .ensures) (c .if2 .left))
 
 -- ---- the needs
 -- `while read.architecture.processes < 4`
@@ -62,15 +61,15 @@ loop-holds c =
       rest = ap (λ (k : ℕ). readProcesses k (architectureOf (s .args .first .architecture)) (s .args .sheet .now) (s .args .first .end)) none;
     }
 
--- `if !is_marked(sheet, read.end, &PR)`
-is-marked-requires : tie.Need-is-marked-requires Inv-loop μ-loop
-is-marked-requires c κs = c .before .before .before .loop .inv .known .inside
+-- `if !is_process(sheet, read.end)`
+is-process-requires : tie.Need-is-process-requires Inv-loop μ-loop
+is-process-requires c κs = c .before .before .loop .inv .known .inside
 
 -- `return read`
 returns : tie.Need-returns Inv-loop μ-loop
 returns c =
     let l = head (c .before) in
-    (reads-none (processes-repeat (bytes l)) (l .loop .inv) (not-true _ (fails (c .before .is-marked .ensures) (c .if2 .taken))), l .loop .inv .known)
+    (reads-none (processes-repeat (bytes l)) (l .loop .inv) (not-true _ (fails (c .before .is-process .ensures) (c .if2 .taken))), l .loop .inv .known)
 
 -- `read = read_process(sheet, read)`
 read-process-requires : tie.Need-read-process-requires Inv-loop μ-loop
@@ -92,7 +91,7 @@ returns-2 c =
 enum-told-2 : tie.Need-enum-told-2 Inv-loop μ-loop
 enum-told-2 c = search needs
 
--- ---- a PR without fault
+-- ---- a process without fault
 abbrev Done : Type 0
 Done = tie.After-enum-told2 Inv-loop μ-loop
 
@@ -134,7 +133,7 @@ read-processes-spec =
     Inv-loop
     μ-loop
     loop-holds
-    is-marked-requires
+    is-process-requires
     returns
     read-process-requires
     enum-told
