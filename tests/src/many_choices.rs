@@ -58,6 +58,14 @@ pub fn relay(first: u8, second: u8) -> Sheet {
     }
 }
 
+/// The same where the second controller hears the first promptly, and so brings
+/// no delay of its own: four states in one of them are not enough, but in both.
+pub fn prompt_relay(first: u8, second: u8) -> Sheet {
+    let mut sheet = relay(first, second);
+    sheet.processes[1].prompt_mask = Some(0x02);
+    sheet
+}
+
 /// Case A's controller with one state more, which has to open with both grants
 /// and then to have exactly one at any time: no choice keeps the sheet whose
 /// first entry is not the greatest.

@@ -291,6 +291,13 @@ impl Sheet {
         self.processes.iter().fold(0, |mask, p| mask | p.outputs)
     }
 
+    /// The process that sets a variable, which is not the environment's.
+    pub fn owner(&self, variable: u8) -> usize {
+        let mut processes = self.processes.iter();
+        let owner = processes.position(|process| process.outputs >> variable & 1 == 1);
+        owner.expect("a process sets it")
+    }
+
     /// Whether each variable has an owner, and T is within its limit.
     pub fn composition_fits(&self) -> bool {
         let known = mask_below(self.environment) | self.owned();

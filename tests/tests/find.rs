@@ -17,7 +17,7 @@ use soclethyme_tests::few_choices;
 use soclethyme_tests::ffi::{self, NEGATIVE, POSITIVE};
 use soclethyme_tests::guarded_buffer::GuardedBuffer;
 use soclethyme_tests::inputs_read::{count_inputs, INPUT_COUNT, READS_ACROSS_GAP, READS_HIGHEST};
-use soclethyme_tests::many_choices::{opening, relay, three_clients, tied_openings};
+use soclethyme_tests::many_choices::{opening, prompt_relay, relay, three_clients, tied_openings};
 use soclethyme_tests::prompt_places::{assert_prompts, count_prompts};
 use soclethyme_tests::proper_sheet::ProperSheet;
 use soclethyme_tests::random_faults;
@@ -294,14 +294,16 @@ fn finds_agree_on_more_choices() {
         three_clients(3, 1),
         relay(3, 2),
         relay(2, 3),
+        prompt_relay(3, 2),
+        prompt_relay(2, 3),
         opening(2),
         tied_openings(2),
     ];
     for sheet in sheets {
         compare(&mut tally, &mut rng, &SearchedSheet::new(sheet));
     }
-    assert_eq!(tally.total("none"), 10);
-    assert_eq!(tally.seen("none", true), 8);
+    assert_eq!(tally.total("none"), 12);
+    assert_eq!(tally.seen("none", true), 10);
     assert_eq!(tally.seen("found late", true), 2);
 }
 

@@ -12,7 +12,7 @@ use Rattle.model.specs.Book.{readBook}
 use Rattle.template.specs.Template as template
 use Rattle.text.specs.Rows.{eachFrom, eachProcess, edgesText}
 use Rattle.text.specs.Text.{textOrRefused}
-use Rattle.drawing.specs.Drawing.{stateText, automatonText, ways, labelText, moveText, rowText, tableText, startText}
+use Rattle.drawing.specs.Drawing.{stateText, automatonText, ways, labelText, moveText, rowText, tableFront, tableText, startText}
 use Rattle.draw.specs.Drawn.{withBook, drawnWith}
 
 abbrev textA : List ℕ
@@ -52,5 +52,5 @@ textA =
 pub draws-a : drawnWith (sheetA 2) bookA ≡ textA
 unfolding readSheet _then_ if bit filter put rowLength rowAt processLength readBook template.digit template.decimalIn template.decimal template.literal template.literals template.behind
     template.spaced template.variables template.condition template.part template.taken template.filled eachFrom eachProcess edgesText stateText automatonText ways labelText moveText rowText
-    tableText startText textOrRefused withBook drawnWith
+    tableFront tableText startText textOrRefused withBook drawnWith
 draws-a = refl

@@ -2,6 +2,7 @@
 use mathlib.Core.Bool.{Bool, true, false}
 use mathlib.Core.List.{List, [], _∷_, _++_}
 use Prim.Native.Nat.{ℕ, suc, _+_, _-_, _*_, _^_, _<_, _≤_}
+use native.Mathlib.Nat.{le-trans}
 use native.Mathlib.Omega.{arith}
 use lib.Dec.{eqb}
 use lib.Pow.{pow-mono}
@@ -12,11 +13,11 @@ use Rattle.model.specs.SheetFile.{Bytes}
 use Rattle.model.specs.Sheet.{Process, Automaton, Sheet, ProperProcess, ProperAutomaton, ProperSheet}
 use Rattle.template.proofs.FilledShort.{longest, filled-short}
 use Rattle.text.specs.Rows.{rowOf}
-use Rattle.text.proofs.RowsShort.{from-short, processes-short, edges-short}
+use Rattle.text.proofs.RowsShort.{from-short, processes-short, Small, all-small, edges-short}
 use Rattle.text.proofs.TextShort.{row-bytes, row-short}
 use Rattle.ties.proofs.Unpacked.{unpack-le}
 use Rattle.drawing.specs.Drawing as spec
-use Rattle.drawing.specs.Drawing.{stateText, edLine, exLine, automatonText, conditionText, conditionsText, labelText, moveText, rowText, tableText, startText, sheetText, bookText}
+use Rattle.drawing.specs.Drawing.{stateText, edLine, exLine, automatonText, conditionText, conditionsText, labelText, moveText, rowText, prFront, pmFront, tableFront, tableText, startText, sheetText, bookText}
 
 -- ---- the automaton
 state-short : (q : ℕ) (rejecting : Bool) → q < 1000 → length (stateText q rejecting) ≤ 48
@@ -85,15 +86,42 @@ module _ {v : ℕ} (few : v ≤ 8) (c : List ℕ) (bytes : Bytes c) where
   known : 2 ^ v ≤ 256
   known = pow-mono {i = v} {j = 8} few
 
-  table-short : {e : ℕ} (i : ℕ) (p : Process) (at : ℕ) → i < 4 → ProperProcess v e p → length (tableText c i p at) ≤ 10891
-  unfolding tableText longest
-  table-short i p at hi own =
-      let front = filled-short 2 (ascii "    subgraph cluster_process_# {\n        label=\"process #: reads @, sets @\";\n        p# [shape=point];\n        p# -> p#_0;\n")
-      (i ∷ i ∷ p .inputs ∷ p .outputs ∷ i ∷ i ∷ i ∷ [])
-      (omega arith, (omega arith, (omega (arith, known, own .inputs-known), (omega (arith, known, own .outputs-known), (omega arith, (omega arith, (omega arith, tt))))))) in
-      let rows = from-short (λ x. rowText i (p .inputs) (p .bound) x (rowOf p at c x)) 2669 4 row (p .bound) 0 (omega (arith, own .few-states)) in
-      simp length-append (omega (arith, front, rows, own .few-states))
+  front-short : {e : ℕ} (i : ℕ) (p : Process) → i < 4 → Small v e p → length (tableFront i p) ≤ 257
+  unfolding tableFront if longest
+  front-short {e} i p hi small = by (p .prompted)
     where
+      own : ProperProcess v e p
+      own = small .own
+
+      by : (t : Bool) → length (if t (pmFront i p) (prFront i p)) ≤ 257
+      by true =
+          filled-short 2 (ascii "    subgraph cluster_process_# {\n        label=\"process #: reads @, prompt @, sets @\";\n        p# [shape=point];\n        p# -> p#_0;\n") _ (
+            omega arith,
+            (
+              omega arith,
+              (
+                omega (arith, known, own .inputs-known),
+                (
+                  omega (arith, known, own .inputs-known, small .prompts),
+                  (omega (arith, known, own .outputs-known), (omega arith, (omega arith, (omega arith, tt)))),
+                ),
+              ),
+            ),
+          )
+      by false =
+          let short : length (prFront i p) ≤ 209 = filled-short 2 (ascii "    subgraph cluster_process_# {\n        label=\"process #: reads @, sets @\";\n        p# [shape=point];\n        p# -> p#_0;\n") _
+          (omega arith, (omega arith, (omega (arith, known, own .inputs-known), (omega (arith, known, own .outputs-known), (omega arith, (omega arith, (omega arith, tt))))))) in
+          le-trans short (omega arith)
+
+  table-short : {e : ℕ} (i : ℕ) (p : Process) (at : ℕ) → i < 4 → Small v e p → length (tableText c i p at) ≤ 10939
+  unfolding tableText
+  table-short {e} i p at hi small =
+      let rows = from-short (λ x. rowText i (p .inputs) (p .bound) x (rowOf p at c x)) 2669 4 row (p .bound) 0 (omega (arith, own .few-states)) in
+      simp length-append (omega (arith, front-short i p hi small, rows, own .few-states))
+    where
+      own : ProperProcess v e p
+      own = small .own
+
       row : (x : ℕ) → x < 4 → length (rowText i (p .inputs) (p .bound) x (rowOf p at c x)) ≤ 2669
       row x hx =
           row-text-short i (p .inputs) (p .bound) x (rowOf p at c x) (omega arith) (omega (arith, known, own .inputs-known)) (own .few-states) (omega arith)
@@ -118,5 +146,5 @@ pub book-short : (s : Sheet) (c : List ℕ) → ProperSheet s → Bytes c → le
 book-short s c g bytes =
     let f = g .architecture .front in
     let ps = s .architecture .processes in
-    let tables = processes-short (tableText c) 10891 4 (table-short (f .few-variables) c bytes) 0 ps 0 (f .processes-proper) (omega (arith, f .few-processes)) in
+    let tables = processes-short (tableText c) 10939 4 (table-short (f .few-variables) c bytes) 0 ps 0 (all-small f) (omega (arith, f .few-processes)) in
     simp length-append (omega (arith, start-short s g, tables, f .few-processes))

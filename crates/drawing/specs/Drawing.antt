@@ -82,11 +82,22 @@ stateFront i x mask = filled (ascii "        p#_# [label=\"#\\n@\"];\n") (i ∷ 
 unfoldable pub rowText : ℕ → ℕ → ℕ → ℕ → List ℕ → List ℕ
 rowText i inputs bound x row = stateFront i x (getD row 0 0) ++ movesText i x inputs (drop 1 row) bound
 
--- the front of a process's cluster: an arrow from a point leads to state 0, in which it starts
-abbrev pub tableFront : ℕ → Process → List ℕ
-tableFront i p =
+-- the front of the cluster of a PR: an arrow from a point leads to state 0, in which it starts
+abbrev pub prFront : ℕ → Process → List ℕ
+prFront i p =
     filled (ascii "    subgraph cluster_process_# {\n        label=\"process #: reads @, sets @\";\n        p# [shape=point];\n        p# -> p#_0;\n")
     (i ∷ i ∷ p .inputs ∷ p .outputs ∷ i ∷ i ∷ i ∷ [])
+
+-- that of a PM says its prompt inputs too
+abbrev pub pmFront : ℕ → Process → List ℕ
+pmFront i p =
+    filled (ascii "    subgraph cluster_process_# {\n        label=\"process #: reads @, prompt @, sets @\";\n        p# [shape=point];\n        p# -> p#_0;\n")
+    (i ∷ i ∷ p .inputs ∷ p .prompts ∷ p .outputs ∷ i ∷ i ∷ i ∷ [])
+
+-- either
+unfoldable pub tableFront : ℕ → Process → List ℕ
+unfolding if
+tableFront i p = if (p .prompted) (pmFront i p) (prFront i p)
 
 -- its rows
 abbrev pub rowsText : List ℕ → ℕ → Process → ℕ → List ℕ

@@ -281,6 +281,15 @@ fn put_table_front(text: &mut [u8], at: usize, a: Architecture, i: usize) -> usi
 {
     let inputs = a.inputs_of(i) as usize;
     let outputs = a.outputs_of(i) as usize;
+    let prompts = a.prompts_of(i) as usize;
+    if a.prompted_of(i) {
+        return put_filled(
+            text,
+            at,
+            b"    subgraph cluster_process_# {\n        label=\"process #: reads @, prompt @, sets @\";\n        p# [shape=point];\n        p# -> p#_0;\n",
+            &[i, i, inputs, prompts, outputs, i, i, i],
+        );
+    }
     put_filled(
         text,
         at,

@@ -12,10 +12,9 @@ use Rattle.model.specs.Mask.{if}
 use Rattle.model.specs.Sheet.{Process, Tie, Architecture, Automaton, Sheet, ProperProcess, ProperProcesses, ProperTies, ProperArchitecture, ProperAutomaton, ProperSheet}
 use Rattle.model.specs.Compose.{T}
 use Rattle.model.specs.Choice.{rows, entries}
-use Rattle.model.proofs.ProperSheet.{prompts-few}
 use Rattle.model.proofs.EntriesBound.{rows-short}
 use Rattle.template.proofs.FilledShort.{longest, filled-short}
-use Rattle.text.proofs.RowsShort.{processes-short, edges-short}
+use Rattle.text.proofs.RowsShort.{processes-short, Small, all-small, edges-short}
 use Rattle.ties.specs.Leaders.{leaders}
 use Rattle.listing.specs.Listing.{frontText, prText, pmText, processText, tieText, tiesText, statesText, edLine, exLine, twos, threes, total, once, countsText, showText}
 use Rattle.listing.proofs.Exponents.{twos-few, threes-few, total-few}
@@ -28,11 +27,6 @@ front-short a g =
     let f = g .front in
     let few : 2 ^ a .environment ≤ 16 = pow-mono {i = a .environment} {j = 4} (f .few-environment) in
     filled-short 2 (ascii "variables #\nenvironment @\nroot @\n") _ (omega (arith, f .few-variables), (omega arith, (omega (arith, f .root-known), tt)))
-
--- its fields have at most 3 digits each
-record Small (v e : ℕ) (p : Process) : Type 0 where
-  own : ProperProcess v e p
-  prompts : p .prompts ≤ p .inputs
 
 process-short : {v e : ℕ} → v ≤ 8 → (i : ℕ) (p : Process) (at : ℕ) → i < 4 → Small v e p → length (processText i p) ≤ 161
 unfolding longest processText if
@@ -111,7 +105,7 @@ show-short s g =
       arith,
       front-short (s .architecture) a,
       processes-short (λ i p at. processText i p) 161 4 (process-short (f .few-variables)) 0 (s .architecture .processes) 0
-          (λ p m. record { own = f .processes-proper p m; prompts = prompts-few (f .prompts-proper) p m }) (omega (arith, f .few-processes)),
+          (all-small f) (omega (arith, f .few-processes)),
       f .few-processes,
       ties-short (s .architecture .processes) (s .architecture .ties) (f .few-processes) (f .ties-proper),
       f .few-ties,

@@ -24,7 +24,7 @@ havingEdges u es = record { states = u .states; initial = u .initial; rejecting 
 
 module _ (b : List ℕ) where
   -- ---- AU
-  -- AU stands behind one PR or more
+  -- AU stands behind one process or more
   pub states-mark : (i : ℕ) (a : Architecture) → marked b i AU ≡ true → 1 ≤ length (a .processes) → (not (marked b i AU) || eqb (length (a .processes)) 0) ≡ false
   states-mark i a mark some = rw mark (ne-eqb (length (a .processes)) 0 (λ e. omega arith))
 

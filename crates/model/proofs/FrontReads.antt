@@ -17,6 +17,7 @@ use Rattle.model.specs.Sheet.{Process, Tie, Architecture, withProcess, w
 use Rattle.model.specs.Reading.{Reading, refused, proper, short, marked, processMarked, tieMarked, AR, SY, arFault, prFault, promptFault, tieFault, architectureAt, processSize, Front}
 use Rattle.model.specs.Reading.{readProcess, readProcesses, readTie, readTies, readFront, refuse_when_else_, _then_}
 use Rattle.model.specs.SheetFile.{processBytes, processesBytes, tieBytes, tiesBytes, frontBytes}
+use Rattle.model.proofs.ProperSheet.{retied, retied-proper}
 use Rattle.model.proofs.Refusing.{go}
 use Rattle.model.proofs.FaultsExact.{opening-faultless, process-faultless, prompt-faultless, tie-faultless}
 use Rattle.model.proofs.RecordAt.{At, behind, next, long-enough, marked-at, process-marked-is, process-marked-at, process-size-at, process-opens, process-long, written, written-same, process-at, tie-at}
@@ -131,26 +132,15 @@ opening-next a x b e =
 
 -- the architecture before its ties
 untie : Architecture → Architecture
-untie a = record { variables = a .variables; environment = a .environment; root = a .root; processes = a .processes; ties = [] }
+untie a = retied a []
 
 untie-same : (a : Architecture) → a .ties ≡ [] → untie a ≡ a
 unfolding untie
-untie-same a untied = λ j. record { variables = a .variables; environment = a .environment; root = a .root; processes = a .processes; ties = sym untied j }
+untie-same a untied = λ j. retied a (sym untied j)
 
 untied-proper : (a : Architecture) → ProperFront a → ProperFront (untie a)
 unfolding untie
-untied-proper a g = record {
-  few-variables = g .few-variables;
-  few-environment = g .few-environment;
-  environment-known = g .environment-known;
-  root-known = g .root-known;
-  few-processes = g .few-processes;
-  processes-proper = g .processes-proper;
-  outputs-apart = g .outputs-apart;
-  prompts-proper = g .prompts-proper;
-  few-ties = omega arith;
-  ties-proper = λ t m. absurd (List·Memᴰ·not-nil m);
-}
+untied-proper a g = retied-proper a [] g (omega arith) (λ t m. absurd (List·Memᴰ·not-nil m))
 
 -- its writing
 untied-bytes : (a : Architecture) → frontBytes a ≡ frontBytes (untie a) ++ tiesBytes (a .ties)
@@ -202,33 +192,22 @@ module _ (b : List ℕ) where
 
 -- more ties
 withTies : Architecture → List Tie → Architecture
-withTies a ts = record { variables = a .variables; environment = a .environment; root = a .root; processes = a .processes; ties = a .ties ++ ts }
+withTies a ts = retied a (a .ties ++ ts)
 
 -- a proper front is proper without its last ties
 fewer-ties : (a : Architecture) (ts : List Tie) → ProperFront (withTies a ts) → ProperFront a
 unfolding withTies
-fewer-ties a ts g = record {
-  few-variables = g .few-variables;
-  few-environment = g .few-environment;
-  environment-known = g .environment-known;
-  root-known = g .root-known;
-  few-processes = g .few-processes;
-  processes-proper = g .processes-proper;
-  outputs-apart = g .outputs-apart;
-  prompts-proper = g .prompts-proper;
-  few-ties = omega (arith, g .few-ties, length-append (a .ties) ts);
-  ties-proper = λ t m. g .ties-proper t (Memᴰ·append-left ts m);
-}
+fewer-ties a ts g = retied-proper (withTies a ts) (a .ties) g (omega (arith, g .few-ties, length-append (a .ties) ts)) (λ t m. g .ties-proper t (Memᴰ·append-left ts m))
 
 -- none more
 no-ties-more : (a : Architecture) → withTies a [] ≡ a
 unfolding withTies
-no-ties-more a = λ j. record { variables = a .variables; environment = a .environment; root = a .root; processes = a .processes; ties = append-nil (a .ties) j }
+no-ties-more a = λ j. retied a (append-nil (a .ties) j)
 
 -- one tie, and then more
 tie-then-more : (a : Architecture) (t : Tie) (ts : List Tie) → withTies (withTie a t) ts ≡ withTies a (t ∷ ts)
 unfolding withTie withTies
-tie-then-more a t ts = λ j. record { variables = a .variables; environment = a .environment; root = a .root; processes = a .processes; ties = append-assoc (a .ties) (t ∷ []) ts j }
+tie-then-more a t ts = λ j. retied a (append-assoc (a .ties) (t ∷ []) ts j)
 
 -- all of them, with room for k more
 ties-through : (b : List ℕ) (ts : List Tie) (k : ℕ) (a : Architecture) (i : ℕ) (x : List ℕ) → At b i (tiesBytes ts ++ x) → ProperFront (withTies a ts)

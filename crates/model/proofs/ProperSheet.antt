@@ -15,7 +15,7 @@ use Rattle.theory.specs.Lists.{empty, before, InTurn, done, and-then, all, from
 use Rattle.theory.proofs.ListLaws.{all-is, from-has, pairwise-append, turn-more}
 use Rattle.model.specs.Mask.{if, within, share, beyond}
 use Rattle.model.specs.Sheet.{Process, Tie, Architecture, Edge, Automaton, Sheet, withProcess, withTie, nobody, processNo, asPR, outputsOf, owned, Apart}
-use Rattle.model.specs.Sheet.{ProperProcess, ProperPrompts, SameShape, ProperTie, ProperFront, ProperArchitecture, ProperEdge, ProperEdges, ProperAutomaton, ProperSheet}
+use Rattle.model.specs.Sheet.{ProperProcess, ProperPrompts, SameShape, ProperTie, ProperTies, ProperFront, ProperArchitecture, ProperEdge, ProperEdges, ProperAutomaton, ProperSheet}
 use Rattle.model.specs.Reading.{Reading, refused, proper, byte, short, marked, processMarked, tieMarked, edgeMarked, EN, AU, PM, AR, refuse_when_else_, _then_}
 use Rattle.model.specs.Reading.{arFault, taken, fieldFault, prFault, promptFault, unlike, tieFault, allFault, auFault, edFault, architectureAt, promptsAt, processAt, processSize, tieAt, edgeAt, Front}
 use Rattle.model.specs.Reading.{readEnd, readEdge, readEdges, readAutomaton, readProcess, readProcesses, readTie, readTies, readFront, readSheet}
@@ -234,9 +234,13 @@ tie-proper ps t f =
     let h₃ = or-false _ _ (h₂ .0) in
     record { left-known = leb-false _ _ (h₃ .0); right-known = leb-false _ _ (h₃ .1); two = eqb-false _ _ (h₂ .1); shape = alike _ _ (h₁ .1) }
 
-pub tie-more : (a : Architecture) (t : Tie) → ProperFront a → length (a .ties) < 3 → tieFault (a .processes) t ≡ false → ProperFront (withTie a t)
-unfolding withTie
-tie-more a t g few f = record {
+-- the same front with these ties
+abbrev pub retied : Architecture → List Tie → Architecture
+retied a ts = record { variables = a .variables; environment = a .environment; root = a .root; processes = a .processes; ties = ts }
+
+-- all but the ties of a proper front stays proper
+pub retied-proper : (a : Architecture) (ts : List Tie) → ProperFront a → length ts ≤ 3 → ProperTies (a .processes) ts → ProperFront (retied a ts)
+retied-proper a ts g few own = record {
   few-variables = g .few-variables;
   few-environment = g .few-environment;
   environment-known = g .environment-known;
@@ -245,10 +249,15 @@ tie-more a t g few f = record {
   processes-proper = g .processes-proper;
   outputs-apart = g .outputs-apart;
   prompts-proper = g .prompts-proper;
-  few-ties = omega (arith, length-append (a .ties) (t ∷ []));
-  ties-proper = λ u m. ⊎-elim (λ i. g .ties-proper u i) (λ i. subst (ProperTie (a .processes)) (sym (List·Memᴰ·eq-of-singleton i)) (tie-proper (a .processes) t f))
-      (List·Memᴰ·append-cases (a .ties) m);
+  few-ties = few;
+  ties-proper = own;
 }
+
+pub tie-more : (a : Architecture) (t : Tie) → ProperFront a → length (a .ties) < 3 → tieFault (a .processes) t ≡ false → ProperFront (withTie a t)
+unfolding withTie
+tie-more a t g few f =
+    retied-proper a (a .ties ++ (t ∷ [])) g (omega (arith, length-append (a .ties) (t ∷ []))) (λ u m.
+    ⊎-elim (λ i. g .ties-proper u i) (λ i. subst (ProperTie (a .processes)) (sym (List·Memᴰ·eq-of-singleton i)) (tie-proper (a .processes) t f)) (List·Memᴰ·append-cases (a .ties) m))
 
 -- ---- the front: at most k more processes, of 6 bytes at most
 pub sizes : (b : List ℕ) (i : ℕ) → (5 ≤ processSize b i) × (processSize b i ≤ 6)

@@ -1,4 +1,4 @@
-// Behind the PR records of a sheet: the SY records.
+// Behind the processes of a sheet: the SY records.
 ghost use mathlib.Core.Path.{_≡_};
 ghost use Prim.Native.Nat.{_<_, _≤_};
 ghost use lib.ListN.{length};
@@ -53,7 +53,7 @@ fn read_tie(sheet: &[u8], so_far: FrontRead) -> FrontRead
     }
 }
 
-// The SY records behind the last PR.
+// The SY records behind the last process.
 pub fn read_ties(sheet: &[u8], first: FrontRead) -> FrontRead
     requires { ⌜ FrontKnown (now sheet) first ⌝ }
     requires { ⌜ (first .answer ≡ Reply.Done) × (first .architecture .ties ≡ 0) ⌝ }

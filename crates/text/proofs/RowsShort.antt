@@ -8,8 +8,9 @@ use native.Mathlib.Omega.{arith}
 use lib.Pow.{pow-mono}
 use lib.ListN.{length, length-append}
 use Rattle.model.specs.Mask.{if}
-use Rattle.model.specs.Sheet.{Process, Edge, ProperEdge, ProperEdges}
+use Rattle.model.specs.Sheet.{Process, Architecture, Edge, ProperProcess, ProperFront, ProperEdge, ProperEdges}
 use Rattle.model.specs.Compose.{processLength}
+use Rattle.model.proofs.ProperSheet.{prompts-few}
 use Rattle.template.proofs.FilledShort.{longest, filled-short}
 use Rattle.text.specs.Rows.{eachFrom, eachProcess, edgeText, edgesText}
 
@@ -32,6 +33,14 @@ module _ {P : Process → Type 0} (one : ℕ → Process → ℕ → List ℕ) (
         processes-short (suc i) ps (at + processLength p) (λ q m. g q (List·Memᴰ·tail m)) (omega arith),
         suc-mul (length ps) m,
       )
+
+-- a process's fields have at most 3 digits each
+pub record Small (v e : ℕ) (p : Process) : Type 0 where
+  pub own : ProperProcess v e p
+  pub prompts : p .prompts ≤ p .inputs
+
+pub all-small : {a : Architecture} → ProperFront a → (p : Process) → List·Memᴰ p (a .processes) → Small (a .variables) (a .environment) p
+all-small f p m = record { own = f .processes-proper p m; prompts = prompts-few (f .prompts-proper) p m }
 
 -- an edge's states and masks have at most 3 digits; the template of neither kind grows beyond m
 module _ {v states : ℕ} (few : v ≤ 8) (known : states ≤ 16) (ed ex : List ℕ) (m : ℕ) (ed-short : longest 2 ed ≤ m) (ex-short : longest 2 ex ≤ m) where

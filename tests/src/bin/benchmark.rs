@@ -11,7 +11,7 @@ use soclethyme_tests::choices::{choice_count, FoundChoice};
 use soclethyme_tests::fast_enumeration;
 use soclethyme_tests::ffi::{self, finding_number, NEGATIVE, POSITIVE};
 use soclethyme_tests::joint_counter::JointCounter;
-use soclethyme_tests::many_choices::{opening, relay, three_clients, tied_openings};
+use soclethyme_tests::many_choices::{opening, prompt_relay, relay, three_clients, tied_openings};
 use soclethyme_tests::proper_sheet::{ProperSheet, SheetAndBook};
 use soclethyme_tests::random_books;
 use soclethyme_tests::random_sheets;
@@ -169,8 +169,8 @@ fn measure_annotate(named: &NamedBook) {
 }
 
 /// The specification's cases, and sheets with ten million choices and more: one
-/// found after a quarter of them, two with none, one found close to the end, and
-/// one with a tie and none.
+/// found after a quarter of them, two with none, one found close to the end, one
+/// with a tie and none, and one with a prompt input and none.
 fn sheets_to_search() -> Vec<(&'static str, Sheet)> {
     let mut all = proper_cases();
     all.push(("case C, bounds 3 and 3", case_c(3, 3)));
@@ -178,6 +178,7 @@ fn sheets_to_search() -> Vec<(&'static str, Sheet)> {
     all.push(("relay, bounds 3 and 3", relay(3, 3)));
     all.push(("opening, bound 3", opening(3)));
     all.push(("tied openings, bounds 3", tied_openings(3)));
+    all.push(("prompt relay, bounds 3 and 3", prompt_relay(3, 3)));
     all
 }
 
