@@ -14,8 +14,8 @@
 extern "C" {
 #endif
 
-/* 0 for a proper sheet, otherwise the refusal of its first fault, 1 to 7, 15 or
- * 21. */
+/* 0 for a proper sheet, which has at most 433 bytes, otherwise the refusal of
+ * its first fault, 1 to 7, 15 or 21; 21 is a wrong prompt input of a PM. */
 uint32_t soclethyme_check(const uint8_t *sheet, size_t sheet_len);
 
 /* Finds the first tables that keep the sheet: writes their book at the front of
