@@ -50,12 +50,22 @@ uint32_t soclethyme_judge(const uint8_t *sheet, size_t sheet_len,
                           const uint16_t *annotation, size_t annotation_len);
 
 /* Writes the exact annotation of the book at the front of `annotation` and
- * leaves the rest; or 256, where a rejecting loop is reachable, and writes
- * nothing. A number is the most rejecting states on a path to its vertex, the
- * first state included. */
+ * leaves the rest and `path`. A number is the most rejecting states on a path to
+ * its vertex, the first state included.
+ * Or 256, where a rejecting loop is reachable: then a run that shows it goes to
+ * the front of `path`, and the rest and `annotation` are left. Each step is two
+ * bytes: the direction, and the number of the edge used, ED and EX counted
+ * together from 0 in the order of the sheet. The first lengths[0] steps, perhaps
+ * none, lead from the initial vertex to a rejecting one, and the next lengths[1],
+ * one or more, back to it. `lengths` are exactly two numbers, written on 256
+ * only.
+ * `path` needs four bytes for each composed state and automaton state, whatever
+ * the result would be; 16384 bytes are always enough. */
 uint32_t soclethyme_annotate(const uint8_t *sheet, size_t sheet_len,
                              const uint8_t *book, size_t book_len,
-                             uint16_t *annotation, size_t annotation_len);
+                             uint16_t *annotation, size_t annotation_len,
+                             uint8_t *path, size_t path_len,
+                             uint32_t *lengths /* 2: stem, cycle */);
 
 #ifdef __cplusplus
 }

@@ -57,12 +57,16 @@ extern "C" {
         book_len: usize,
         annotation: *mut u16,
         annotation_len: usize,
+        path: *mut u8,
+        path_len: usize,
+        lengths: *mut u32,
     ) -> u32;
 }
 
 // SAFETY, of every call below: each pointer and length are those of one live
-// slice, and tables have the length that the calls expect. A call writes only to
-// what it gets as `*mut`, which is lent as `&mut` and so overlaps nothing else.
+// slice, and tables and the two lengths of a run have the length that the calls
+// expect. A call writes only to what it gets as `*mut`, which is lent as `&mut`
+// and so overlaps nothing else.
 
 /// Whether the sheet is proper: positive, or the refusal.
 pub fn check(sheet: &[u8]) -> u32 {
@@ -138,9 +142,16 @@ pub fn judge(sheet: &[u8], book: &[u8], annotation: &[u16]) -> u32 {
     }
 }
 
-/// Positive for an annotation written at the front of the buffer, negative for a
-/// rejecting loop, otherwise the refusal.
-pub fn annotate(sheet: &[u8], book: &[u8], annotation: &mut [u16]) -> u32 {
+/// Positive for an annotation written at the front of its buffer; negative for a
+/// rejecting loop, with the steps of a stem and a cycle written at the front of
+/// the path and their counts to the lengths; otherwise the refusal.
+pub fn annotate(
+    sheet: &[u8],
+    book: &[u8],
+    annotation: &mut [u16],
+    path: &mut [u8],
+    lengths: &mut [u32; 2],
+) -> u32 {
     unsafe {
         soclethyme_annotate(
             sheet.as_ptr(),
@@ -149,6 +160,9 @@ pub fn annotate(sheet: &[u8], book: &[u8], annotation: &mut [u16]) -> u32 {
             book.len(),
             annotation.as_mut_ptr(),
             annotation.len(),
+            path.as_mut_ptr(),
+            path.len(),
+            lengths.as_mut_ptr(),
         )
     }
 }

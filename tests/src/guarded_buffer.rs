@@ -3,8 +3,8 @@
 
 use crate::text::{hex, run_lengths};
 
-/// What a lent buffer is made of: the bytes of books and tables, the numbers of
-/// annotations.
+/// What a lent buffer is made of: the bytes of books, tables and paths, the numbers
+/// of annotations, the lengths of runs.
 pub trait Cell: Copy + PartialEq {
     const BEFORE: Self;
     const BEHIND: Self;
@@ -30,6 +30,15 @@ impl Cell for u16 {
     }
 }
 
+impl Cell for u32 {
+    const BEFORE: u32 = 0xA5A5_A5A5;
+    const BEHIND: u32 = 0x5A5A_5A5A;
+
+    fn text(cells: &[u32]) -> String {
+        format!("{cells:?}")
+    }
+}
+
 /// How many cells stand guard on either side.
 const GUARD: usize = 32;
 
@@ -50,6 +59,11 @@ impl<T: Cell> GuardedBuffer<T> {
     pub fn lent(&mut self) -> &mut [T] {
         let end = self.cells.len() - GUARD;
         &mut self.cells[GUARD..end]
+    }
+
+    /// What it holds between its guards.
+    pub fn held(&self) -> &[T] {
+        &self.cells[GUARD..self.cells.len() - GUARD]
     }
 
     /// Whether it holds exactly this, with its guards as they were.

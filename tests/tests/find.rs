@@ -17,6 +17,7 @@ use soclethyme_tests::few_choices;
 use soclethyme_tests::ffi::{self, NEGATIVE, POSITIVE};
 use soclethyme_tests::guarded_buffer::GuardedBuffer;
 use soclethyme_tests::inputs_read::{count_inputs, INPUT_COUNT, READS_ACROSS_GAP, READS_HIGHEST};
+use soclethyme_tests::lasso::least_path;
 use soclethyme_tests::many_choices::{opening, prompt_relay, relay, three_clients, tied_openings};
 use soclethyme_tests::prompt_places::{assert_prompts, count_prompts};
 use soclethyme_tests::proper_sheet::ProperSheet;
@@ -127,8 +128,12 @@ impl SearchedSheet {
         assert_eq!(ffi::judge(sheet, book, annotation), POSITIVE);
         let mut again = annotation.clone();
         again[..found.annotation.len()].fill(7);
-        assert_eq!(ffi::annotate(sheet, book, &mut again), POSITIVE);
+        let mut path = vec![7; least_path(found.annotation.len())];
+        let mut lengths = [7; 2];
+        let annotated = ffi::annotate(sheet, book, &mut again, &mut path, &mut lengths);
+        assert_eq!(annotated, POSITIVE);
         assert_eq!(again, *annotation, "sheet {}", hex(sheet));
+        assert!(lengths == [7; 2] && path.iter().all(|byte| *byte == 7));
     }
 }
 

@@ -1,5 +1,6 @@
 //! The library's verdicts on books against the independent run graph. Each
-//! input goes to both calls, and every lent number is compared after them.
+//! input goes to both calls, and every lent number and byte is compared after
+//! them. The run that is reported for a rejecting loop may be any: it is replayed.
 
 use soclethyme_tests::bench_cases::{
     book_s, case_d, case_e, case_f, case_g, case_h, case_p, case_q, ANNOTATION_A, BOOK_A, BOOK_D,
@@ -12,6 +13,10 @@ use soclethyme_tests::ffi::{self, finding_number, NEGATIVE, POSITIVE};
 use soclethyme_tests::guarded_buffer::GuardedBuffer;
 use soclethyme_tests::inputs_read::{count_inputs, INPUT_COUNT, READS_ACROSS_GAP, READS_HIGHEST};
 use soclethyme_tests::joint_counter::{JointCounter, LONGEST_COUNTER};
+use soclethyme_tests::lasso::{least_path, Lasso};
+use soclethyme_tests::looping_books::{
+    adders, guided, longest_run, loop_behind, ring, OnlyRun, PassedOnce,
+};
 use soclethyme_tests::prompt_places::{assert_prompts, count_prompts};
 use soclethyme_tests::proper_sheet::{ProperSheet, SheetAndBook};
 use soclethyme_tests::random_annotations;
@@ -21,36 +26,41 @@ use soclethyme_tests::random_books::{
 use soclethyme_tests::random_faults;
 use soclethyme_tests::random_sheets::{self, any_shape, shapes, Shape};
 use soclethyme_tests::refusal::{
-    Refusal, CUT_OFF, SHEET_REFUSALS, SHORT_ANNOTATION, WRONG_ENTRY, WRONG_FORM,
+    Refusal, CUT_OFF, SHEET_REFUSALS, SHORT_ANNOTATION, SHORT_PATH, WRONG_ENTRY, WRONG_FORM,
 };
 use soclethyme_tests::rejecting_loops;
 use soclethyme_tests::rng::Rng;
 use soclethyme_tests::run_graph::{greatest_number, RunGraph, BLANK};
-use soclethyme_tests::sheet::{read_sheet, Edge, Sheet, MOST_INPUTS, MOST_VERTICES};
+use soclethyme_tests::sheet::{read_sheet, Edge, Sheet, MOST_INPUTS, MOST_STATES, MOST_VERTICES};
 use soclethyme_tests::single_faults;
 use soclethyme_tests::tally::Tally;
 use soclethyme_tests::text::{hex, run_lengths};
 use soclethyme_tests::tie_places::{assert_ties, count_ties};
+use soclethyme_tests::transition_system::TransitionSystem;
 
 const SEED: u64 = 0x5EED_0003;
 
-/// A sheet and a book with the run graph that the independent reading makes of
-/// them.
+/// A sheet and a book with the machines and the run graph that the independent
+/// reading makes of them.
 struct BookGraph {
     sheet: Vec<u8>,
     book: Vec<u8>,
+    system: Result<TransitionSystem, Refusal>,
     graph: Result<RunGraph, Refusal>,
     annotation: Option<Vec<u16>>,
 }
 
 impl BookGraph {
     fn new(sheet: &[u8], book: &[u8]) -> Self {
-        let graph = RunGraph::read(sheet, book);
+        let system = TransitionSystem::read(sheet, book);
+        let graph = system.as_ref().map(RunGraph::of);
+        let graph = graph.map_err(|refusal| *refusal);
         BookGraph {
             sheet: sheet.to_vec(),
             book: book.to_vec(),
             annotation: graph.as_ref().ok().and_then(RunGraph::annotation),
             graph,
+            system,
         }
     }
 
@@ -67,24 +77,42 @@ impl BookGraph {
         self.graph.as_ref().map_or(0, RunGraph::len)
     }
 
+    /// The least length of a path buffer, 0 if there is no graph.
+    fn least_path(&self) -> usize {
+        least_path(self.vertices())
+    }
+
+    fn loops(&self) -> bool {
+        self.graph.is_ok() && self.annotation.is_none()
+    }
+
     fn judge(&self, annotation: &[u16]) -> u32 {
         let graph = self.graph.as_ref().map_err(|refusal| *refusal);
         finding_number(graph.and_then(|graph| graph.judge(annotation)))
     }
 
-    /// Leaves in the buffer what the specification has there after the call.
-    fn annotate(&self, buffer: &mut [u16]) -> u32 {
-        if let Err(refusal) = &self.graph {
-            return *refusal;
+    /// The answer with a path buffer of this length. Leaves in the other buffer what
+    /// the specification has there after the call.
+    fn annotate(&self, buffer: &mut [u16], path: usize) -> u32 {
+        let graph = self.graph.as_ref().map_err(|refusal| *refusal);
+        let enough = graph.and_then(|graph| graph.check_buffers(buffer.len(), path));
+        if let Err(refusal) = enough {
+            return refusal;
         }
-        let Some(front) = buffer.get_mut(..self.vertices()) else {
-            return SHORT_ANNOTATION;
-        };
         let Some(annotation) = &self.annotation else {
             return NEGATIVE;
         };
-        front.copy_from_slice(annotation);
+        buffer[..annotation.len()].copy_from_slice(annotation);
         POSITIVE
+    }
+
+    /// The run that was reported, which has to break the sheet.
+    fn replayed(&self, path: &[u8], lengths: [u32; 2]) -> Lasso {
+        let system = self.system.as_ref().expect("a proper sheet and book");
+        Lasso::replayed(system, path, lengths).unwrap_or_else(|fault| {
+            let front = hex(&path[..path.len().min(200)]);
+            panic!("{fault:?}\n{lengths:?} {front}\n{}", self.describe())
+        })
     }
 
     fn describe(&self) -> String {
@@ -134,33 +162,135 @@ fn compare_judge(tally: &mut Tally, graph: &BookGraph, annotation: &[u16]) -> u3
     own
 }
 
-/// Annotates in a buffer that holds these numbers.
-fn compare_annotate(tally: &mut Tally, graph: &BookGraph, held: &[u16]) -> u32 {
+/// What annotating is lent, between guards.
+struct Lent {
+    annotation: GuardedBuffer<u16>,
+    path: GuardedBuffer<u8>,
+    lengths: GuardedBuffer<u32>,
+}
+
+/// So many bytes of which none is a direction or the number of an edge.
+fn no_steps(length: usize) -> Vec<u8> {
+    (0..length).map(|at| 0x80 | at as u8).collect()
+}
+
+/// More steps than any run has.
+const NO_LENGTHS: [u32; 2] = [0xEEEE_0001, 0xEEEE_0002];
+
+impl Lent {
+    fn new(annotation: &[u16], path: usize) -> Self {
+        Lent {
+            annotation: GuardedBuffer::holding(annotation),
+            path: GuardedBuffer::holding(&no_steps(path)),
+            lengths: GuardedBuffer::holding(&NO_LENGTHS),
+        }
+    }
+
+    fn lengths(&self) -> [u32; 2] {
+        let [stem, cycle] = self.lengths.held() else {
+            panic!("two lengths");
+        };
+        [*stem, *cycle]
+    }
+
+    fn annotate(&mut self, graph: &BookGraph) -> u32 {
+        let lengths = self.lengths.lent().try_into().expect("two lengths");
+        ffi::annotate(
+            &graph.sheet,
+            &graph.book,
+            self.annotation.lent(),
+            self.path.lent(),
+            lengths,
+        )
+    }
+
+    /// The run that was reported, which has to break the sheet.
+    fn run(&self, graph: &BookGraph) -> Lasso {
+        graph.replayed(self.path.held(), self.lengths())
+    }
+
+    /// Whether these steps were written with these lengths, and nothing else.
+    fn holds_steps(&self, steps: &[u8], lengths: [u32; 2]) -> bool {
+        let mut path = no_steps(self.path.held().len());
+        path[..steps.len()].copy_from_slice(steps);
+        self.path.holds(&path) && self.lengths.holds(&lengths)
+    }
+
+    /// Whether neither steps nor lengths were written.
+    fn holds_no_steps(&self) -> bool {
+        self.holds_steps(&[], NO_LENGTHS)
+    }
+}
+
+const STEM: &str = "steps of a stem";
+const CYCLE: &str = "steps of a cycle";
+const RUN_VERTICES: &str = "vertices where a run is replayed";
+const SHORT_PATH_LOOP: &str = "path too short, with a rejecting loop or not";
+const SHORT_PATH_ALONE: &str = "path too short, and the annotation's buffer not";
+const PATH_ROOM: &str = "bytes behind the least path, 2 for more";
+
+/// Replays what was written, behind which nothing is changed.
+fn compare_run(tally: &mut Tally, graph: &BookGraph, lent: &Lent) {
+    let run = lent.run(graph);
+    let lengths = run.lengths();
+    assert!(
+        lent.holds_steps(&run.bytes(), lengths),
+        "more is written than {lengths:?} steps\n{}",
+        graph.describe()
+    );
+    tally.count(STEM, run.stem.len());
+    tally.count(CYCLE, run.cycle.len());
+    tally.count(RUN_VERTICES, graph.vertices());
+}
+
+/// Counts what the buffers were like that made a path too short, or did not.
+fn count_buffers(tally: &mut Tally, graph: &BookGraph, held: usize, path: usize, answer: u32) {
+    if answer == SHORT_PATH {
+        tally.count(SHORT_PATH_LOOP, graph.loops());
+        tally.count(SHORT_PATH_ALONE, held >= graph.vertices());
+    } else if [POSITIVE, NEGATIVE].contains(&answer) {
+        tally.count(PATH_ROOM, (path - graph.least_path()).min(2));
+    }
+}
+
+/// Annotates in a buffer that holds these numbers, with a path buffer of this
+/// length.
+fn compare_annotate(tally: &mut Tally, graph: &BookGraph, held: &[u16], path: usize) -> u32 {
     let mut expected = held.to_vec();
-    let own = graph.annotate(&mut expected);
+    let own = graph.annotate(&mut expected, path);
     assert!(
         own == POSITIVE || expected == held,
         "nothing else is written"
     );
-    let mut lent = GuardedBuffer::holding(held);
-    let library = ffi::annotate(&graph.sheet, &graph.book, lent.lent());
+    let mut lent = Lent::new(held, path);
+    let library = lent.annotate(graph);
     assert!(
-        library == own && lent.holds(&expected),
-        "annotate: library {library}, independent {own}, buffer of {}\n{}\n{}",
+        library == own && lent.annotation.holds(&expected),
+        "annotate: library {library}, independent {own}, buffers of {} and {path}\n{}\n{}",
         held.len(),
         graph.describe(),
-        lent.compared(&expected)
+        lent.annotation.compared(&expected)
     );
+    if own == NEGATIVE {
+        compare_run(tally, graph, &lent);
+    } else {
+        assert!(
+            lent.holds_no_steps(),
+            "answer {own}, but steps\n{}",
+            graph.describe()
+        );
+    }
+    count_buffers(tally, graph, held.len(), path, own);
     tally.count("annotate", own);
     own
 }
 
 /// Both calls on one input.
-fn compare(tally: &mut Tally, graph: &BookGraph, held: &[u16]) -> (u32, u32) {
+fn compare(tally: &mut Tally, graph: &BookGraph, held: &[u16], path: usize) -> (u32, u32) {
     let judged = compare_judge(tally, graph, held);
-    let annotated = compare_annotate(tally, graph, held);
+    let annotated = compare_annotate(tally, graph, held, path);
     assert!(
-        judged != POSITIVE || annotated == POSITIVE,
+        judged != POSITIVE || [POSITIVE, SHORT_PATH].contains(&annotated),
         "a book with a valid annotation loops"
     );
     (judged, annotated)
@@ -168,13 +298,14 @@ fn compare(tally: &mut Tally, graph: &BookGraph, held: &[u16]) -> (u32, u32) {
 
 /// What is annotated is valid.
 fn assert_judged_as_annotated(tally: &mut Tally, graph: &BookGraph) {
-    let mut buffer = vec![0xEEEE; graph.vertices()];
-    let annotated = ffi::annotate(&graph.sheet, &graph.book, &mut buffer);
-    let judged = compare_judge(tally, graph, &buffer);
+    let mut lent = Lent::new(&vec![0xEEEE; graph.vertices()], graph.least_path());
+    let annotated = lent.annotate(graph);
+    let buffer = lent.annotation.lent();
+    let judged = compare_judge(tally, graph, buffer);
     assert!(
         annotated != POSITIVE || judged == POSITIVE,
         "{}",
-        run_lengths(&buffer)
+        run_lengths(buffer)
     );
 }
 
@@ -188,23 +319,57 @@ fn assert_judged_without_start(tally: &mut Tally, graph: &BookGraph) {
     }
 }
 
+/// Path buffers that are too short for the graph.
+fn short_paths(rng: &mut Rng, graph: &BookGraph) -> [usize; 3] {
+    let least = graph.least_path();
+    [0, rng.below(least), least - 1]
+}
+
+/// Path buffers that are long enough.
+fn long_paths(rng: &mut Rng, graph: &BookGraph) -> [usize; 3] {
+    let least = graph.least_path();
+    [least, least + 1, least + rng.within(2, 40)]
+}
+
+fn long_path(rng: &mut Rng, graph: &BookGraph) -> usize {
+    let paths = long_paths(rng, graph);
+    *rng.pick(&paths)
+}
+
+/// Path buffers around the least length, with this annotation whole and cut short:
+/// a path that is too short decides before that.
+fn compare_paths(tally: &mut Tally, rng: &mut Rng, graph: &BookGraph, annotation: &[u16]) {
+    let short = &annotation[..rng.below(annotation.len())];
+    for held in [annotation, short] {
+        for path in short_paths(rng, graph) {
+            assert_eq!(compare_annotate(tally, graph, held, path), SHORT_PATH);
+        }
+    }
+    for path in long_paths(rng, graph) {
+        let answer = compare_annotate(tally, graph, short, path);
+        assert_eq!(answer, SHORT_ANNOTATION);
+    }
+}
+
 /// Annotations of all kinds, and buffers of other lengths.
 fn compare_annotations(tally: &mut Tally, rng: &mut Rng, graph: &BookGraph) {
     count_properties(tally, graph);
     let kinds = random_annotations::of_all_kinds(rng, graph.graph());
     for annotation in &kinds {
-        compare(tally, graph, annotation);
+        compare(tally, graph, annotation, long_path(rng, graph));
     }
     let annotation = match &graph.annotation {
         Some(annotation) => annotation,
         None => rng.pick(&kinds),
     };
     for other in random_annotations::in_other_lengths(rng, annotation) {
-        let (judged, annotated) = compare(tally, graph, &other);
+        let path = long_path(rng, graph);
+        let (judged, annotated) = compare(tally, graph, &other, path);
         let short = other.len() < graph.vertices();
         assert_eq!(judged == SHORT_ANNOTATION, short);
         assert_eq!(annotated == SHORT_ANNOTATION, short);
     }
+    compare_paths(tally, rng, graph, annotation);
     assert_judged_as_annotated(tally, graph);
     assert_judged_without_start(tally, graph);
 }
@@ -304,12 +469,20 @@ fn buffers(rng: &mut Rng, graph: &BookGraph) -> Vec<Vec<u16>> {
     lengths.iter().map(|length| vec![value; *length]).collect()
 }
 
+/// The length of a path buffer in the same way.
+fn any_path(rng: &mut Rng, graph: &BookGraph) -> usize {
+    let longer = least_path(MOST_VERTICES) + 3;
+    let lengths = [0, rng.within(1, 80), graph.least_path(), longer];
+    *rng.pick(&lengths)
+}
+
 fn compare_buffers(tally: &mut Tally, rng: &mut Rng, sheet: &[u8], book: &[u8]) {
     let graph = BookGraph::new(sheet, book);
     let buffers = buffers(rng, &graph);
     for _ in 0..2 {
         let held = rng.pick(&buffers);
-        compare(tally, &graph, held);
+        let path = any_path(rng, &graph);
+        compare(tally, &graph, held, path);
     }
 }
 
@@ -325,7 +498,8 @@ fn compare_wrong_byte(tally: &mut Tally, rng: &mut Rng, input: &SheetAndBook) {
     let answer = input.proper.refusal_at(position);
     let graph = BookGraph::new(&input.proper.bytes, &book);
     for held in buffers(rng, &graph) {
-        assert_eq!(compare(tally, &graph, &held), (answer, answer));
+        let path = any_path(rng, &graph);
+        assert_eq!(compare(tally, &graph, &held, path), (answer, answer));
     }
 }
 
@@ -348,10 +522,12 @@ fn compare_broken_tie(tally: &mut Tally, rng: &mut Rng, input: &SheetAndBook) {
     for answer in [WRONG_ENTRY, WRONG_FORM] {
         let graph = BookGraph::new(&input.proper.bytes, &book);
         for held in buffers(rng, &graph) {
-            assert_eq!(compare(tally, &graph, &held), (answer, answer));
+            let path = any_path(rng, &graph);
+            assert_eq!(compare(tally, &graph, &held, path), (answer, answer));
         }
         if let Some(annotation) = &untied.annotation {
-            assert_eq!(compare(tally, &graph, annotation), (answer, answer));
+            let path = untied.least_path();
+            assert_eq!(compare(tally, &graph, annotation, path), (answer, answer));
         }
         let position = book.len() - 1;
         book[position] ^= 1;
@@ -403,16 +579,29 @@ fn compare_improper_sheets(tally: &mut Tally, rng: &mut Rng) {
 }
 
 /// Each answer often, and no other.
-fn assert_answers(tally: &Tally, call: &'static str) {
+fn assert_answers(tally: &Tally, call: &'static str, own_refusals: &[Refusal]) {
     let findings = [POSITIVE, NEGATIVE];
     let refusals = [
         &SHEET_REFUSALS[..],
         &[SHORT_ANNOTATION, WRONG_FORM, WRONG_ENTRY],
+        own_refusals,
     ]
     .concat();
     tally.assert_often(call, findings, 1_000);
     tally.assert_often(call, refusals.clone(), 200);
     tally.assert_only(call, [&findings[..], &refusals].concat());
+}
+
+/// Runs often of each kind, and too short paths.
+fn assert_runs(tally: &Tally) {
+    let runs = tally.total(STEM);
+    assert_eq!(runs, tally.seen("annotate", NEGATIVE));
+    tally.assert_often(STEM, 0..=3, 100);
+    tally.assert_often(CYCLE, 1..=3, 100);
+    tally.assert_often(RUN_VERTICES, [MOST_VERTICES], 100);
+    tally.assert_often(SHORT_PATH_LOOP, [false, true], 5_000);
+    tally.assert_often(SHORT_PATH_ALONE, [false, true], 5_000);
+    tally.assert_often(PATH_ROOM, 0..=2, 10_000);
 }
 
 #[test]
@@ -446,12 +635,74 @@ fn verdicts_agree_on_generated_books() {
     tally.assert_often(READS_ACROSS_GAP, [true], 500);
     tally.assert_often(BROKEN_BOOKS, [false, true], 200);
     assert_ties(&tally);
-    assert_answers(&tally, "judge");
-    assert_answers(&tally, "annotate");
+    assert_answers(&tally, "judge", &[]);
+    assert_answers(&tally, "annotate", &[SHORT_PATH]);
+    assert_runs(&tally);
 }
 
-const SHEETS_WITH_PROMPTS: usize = 12_500;
+const BOOKS: usize = 100_000;
 const BOOKS_OF_SHEET: usize = 8;
+
+/// Of any shape, or with few choices, or with the largest run graph.
+fn sheet_of_any_kind(rng: &mut Rng) -> Sheet {
+    match rng.below(100) {
+        0 => rejecting_loops::largest(rng),
+        1..=20 => few_choices::sheet(rng, 20_000),
+        _ => rejecting_loops::sheet(rng),
+    }
+}
+
+/// Annotates the book, with a path that is long enough and with one that is not.
+fn compare_book(tally: &mut Tally, rng: &mut Rng, graph: &BookGraph) {
+    tally.count("vertices", graph.vertices());
+    let held = vec![7; graph.vertices() + rng.below(3)];
+    let answer = compare_annotate(tally, graph, &held, long_path(rng, graph));
+    assert_eq!(answer == NEGATIVE, graph.loops());
+    let paths = short_paths(rng, graph);
+    let lengths = [held.len(), rng.below(graph.vertices())];
+    let (path, held) = (*rng.pick(&paths), &held[..*rng.pick(&lengths)]);
+    assert_eq!(compare_annotate(tally, graph, held, path), SHORT_PATH);
+}
+
+/// Books in whose graphs a run is long, or a rejecting vertex seldom on a cycle.
+fn looping_books() -> Vec<SheetAndBook> {
+    let mut all = Vec::new();
+    for variant in [false, true] {
+        all.push(longest_run(variant));
+        all.push(JointCounter::longest_closed(variant).with_book());
+        let passed = [PassedOnce::None, PassedOnce::Behind, PassedOnce::Ahead];
+        all.extend(passed.map(|passed| adders(passed, variant)));
+    }
+    all
+}
+
+/// Each reported run is replayed, and nothing else is written.
+#[test]
+fn reported_runs_break_the_sheet() {
+    let mut tally = Tally::default();
+    let mut rng = Rng::new(SEED);
+    for _ in 0..BOOKS / BOOKS_OF_SHEET {
+        let proper = ProperSheet::new(sheet_of_any_kind(&mut rng));
+        for _ in 0..BOOKS_OF_SHEET {
+            let graph = BookGraph::new(&proper.bytes, &book(&mut rng, &proper));
+            compare_book(&mut tally, &mut rng, &graph);
+        }
+    }
+    for input in looping_books() {
+        compare_book(&mut tally, &mut rng, &BookGraph::of(&input));
+    }
+    tally.print("runs that break the sheet replayed");
+
+    let books = tally.total("vertices");
+    assert!(books >= BOOKS as u64);
+    tally.assert_often("annotate", [POSITIVE, NEGATIVE], books / 5);
+    tally.assert_often("vertices", [MOST_VERTICES], 1_000);
+    assert_runs(&tally);
+    assert!(tally.greatest(STEM) >= Some(3_840));
+    tally.assert_often(CYCLE, [MOST_VERTICES], 2);
+}
+
+const SHEETS_WITH_PROMPTS: usize = BOOKS / BOOKS_OF_SHEET;
 
 /// With prompt inputs, of any shape or with few choices.
 fn sheet_with_prompts(rng: &mut Rng) -> Sheet {
@@ -489,7 +740,8 @@ fn verdicts_agree_on_prompts() {
         for _ in 0..BOOKS_OF_SHEET {
             let graph = BookGraph::new(&proper.bytes, &book(&mut rng, &proper));
             let held = vec![0; graph.vertices() + rng.below(3)];
-            compare(&mut tally, &graph, &held);
+            let path = long_path(&mut rng, &graph);
+            compare(&mut tally, &graph, &held, path);
             assert_judged_as_annotated(&mut tally, &graph);
             count_delayed(&mut tally, &proper.sheet, &graph);
         }
@@ -500,6 +752,7 @@ fn verdicts_agree_on_prompts() {
     assert_eq!(tally.total("annotate"), books);
     assert_eq!(tally.total("judge"), 2 * books);
     assert_prompts(&tally, SHEETS_WITH_PROMPTS as u64);
+    tally.assert_often("annotate", [NEGATIVE], books / 5);
     for call in ["annotate", "judge"] {
         tally.assert_often(call, [POSITIVE, NEGATIVE], books / 10);
         tally.assert_only(call, [POSITIVE, NEGATIVE]);
@@ -513,12 +766,15 @@ fn assert_annotated(sheet: &[u8], book: &[u8], annotation: &[u16]) {
     let mut tally = Tally::default();
     let graph = BookGraph::new(sheet, book);
     let held = [annotation, &[7, 8, 9]].concat();
-    assert_eq!(compare(&mut tally, &graph, &held), (POSITIVE, POSITIVE));
-    let mut buffer = vec![0xEEEE; held.len()];
-    assert_eq!(ffi::annotate(sheet, book, &mut buffer), POSITIVE);
-    assert_eq!(buffer, [annotation, &[0xEEEE; 3]].concat());
-    let refused = (SHORT_ANNOTATION, SHORT_ANNOTATION);
-    assert_eq!(compare(&mut tally, &graph, &annotation[1..]), refused);
+    let least = graph.least_path();
+    let answers = compare(&mut tally, &graph, &held, least);
+    assert_eq!(answers, (POSITIVE, POSITIVE));
+    let mut lent = Lent::new(&vec![0xEEEE; held.len()], least);
+    assert_eq!(lent.annotate(&graph), POSITIVE);
+    let written = [annotation, &[0xEEEE; 3]].concat();
+    assert!(lent.annotation.holds(&written) && lent.holds_no_steps());
+    let answers = compare(&mut tally, &graph, &annotation[1..], least);
+    assert_eq!(answers, (SHORT_ANNOTATION, SHORT_ANNOTATION));
 }
 
 /// Judged so, with the only book of a sheet made from case E.
@@ -537,7 +793,7 @@ fn bench_case_a_annotation() {
 fn bench_case_d_has_no_loop() {
     let graph = BookGraph::new(&case_d().bytes(), &BOOK_D);
     assert_eq!(graph.vertices(), 64);
-    let answers = compare(&mut Tally::default(), &graph, &[0; 64]);
+    let answers = compare(&mut Tally::default(), &graph, &[0; 64], 256);
     assert_eq!(answers, (NEGATIVE, POSITIVE));
 }
 
@@ -551,8 +807,75 @@ fn bench_cases_e_f_and_g() {
     }
     let graph = BookGraph::new(&case_f(1).bytes(), &BOOK_E);
     for number in [0, 1, 65_534, BLANK] {
-        let answers = compare(&mut Tally::default(), &graph, &[number]);
+        let answers = compare(&mut Tally::default(), &graph, &[number], 4);
         assert_eq!(answers, (NEGATIVE, NEGATIVE));
+    }
+}
+
+/// The run of a book that loops, with so much room behind the least path. Nothing
+/// else is written.
+fn reported(graph: &BookGraph, room: usize) -> Lasso {
+    let held = vec![7; graph.vertices()];
+    let mut lent = Lent::new(&held, graph.least_path() + room);
+    assert_eq!(lent.annotate(graph), NEGATIVE);
+    let run = lent.run(graph);
+    assert!(lent.annotation.holds(&held));
+    assert!(lent.holds_steps(&run.bytes(), run.lengths()));
+    run
+}
+
+/// That run has these lengths and steps, whatever the room.
+fn assert_reported(input: &SheetAndBook, lengths: [u32; 2], steps: &[u8]) {
+    let graph = BookGraph::of(input);
+    for room in [0, 1, 9] {
+        let run = reported(&graph, room);
+        assert_eq!((run.lengths(), &run.bytes()[..]), (lengths, steps));
+    }
+}
+
+/// F stays where it is by its only edge. Two such steps would be enough to pass,
+/// but they are more than are needed.
+#[test]
+fn bench_case_f_run() {
+    let input = SheetAndBook {
+        proper: ProperSheet::new(case_f(1)),
+        book: BOOK_E.to_vec(),
+    };
+    assert_reported(&input, [0, 1], &[0x00, 0x00]);
+}
+
+/// Rings, in which no other run is short enough: up to one step less than there
+/// may be.
+#[test]
+fn only_runs_are_reported() {
+    let OnlyRun { input, .. } = ring(5, 3);
+    let (stem, cycle) = ([0, 9, 0, 7, 0, 5], [0, 3, 0, 1, 0, 9, 0, 7, 0, 5]);
+    assert_reported(&input, [3, 5], &[&stem[..], &cycle].concat());
+    for states in 2..=MOST_STATES as u8 {
+        for rejecting in 1..states {
+            let OnlyRun { input, shortest } = ring(states, rejecting);
+            assert_reported(&input, shortest.lengths(), &shortest.bytes());
+        }
+    }
+}
+
+/// There is one way to go on for ever, which a run may go round more than once.
+#[test]
+fn endless_runs_are_reported() {
+    for endless in [guided(), loop_behind()] {
+        let run = reported(&BookGraph::of(&endless.input), 0);
+        let steps = run.bytes();
+        assert_eq!(steps, endless.bytes(steps.len()));
+    }
+}
+
+/// The counter's run has nearly as many steps as there may be.
+#[test]
+fn longest_run_is_reported() {
+    for falling in [false, true] {
+        let run = reported(&BookGraph::of(&longest_run(falling)), 0);
+        assert!((3_840..4_096).contains(&run.stem.len()));
+        assert_eq!(run.cycle.len(), 4_096);
     }
 }
 
@@ -574,14 +897,17 @@ fn bench_case_s_verdicts() {
     let tally = &mut Tally::default();
     assert_annotated(&SHEET_S, &book_s(0x05, 0x0A), &[0, BLANK]);
     let looped = BookGraph::new(&SHEET_S, &book_s(0x01, 0x02));
-    assert_eq!(compare(tally, &looped, &[0, BLANK]), (NEGATIVE, NEGATIVE));
+    let answers = compare(tally, &looped, &[0, BLANK], 8);
+    assert_eq!(answers, (NEGATIVE, NEGATIVE));
 
     let mut broken = book_s(0x01, 0x08);
     for (last, answer) in [(0x4E, WRONG_ENTRY), (0x4F, WRONG_FORM)] {
         broken[13] = last;
         let graph = BookGraph::new(&SHEET_S, &broken);
         for held in [&[][..], &[0], &[0, BLANK], &[0, BLANK, 7]] {
-            assert_eq!(compare(tally, &graph, held), (answer, answer));
+            for path in [0, 7, 8] {
+                assert_eq!(compare(tally, &graph, held, path), (answer, answer));
+            }
         }
     }
 }
@@ -604,7 +930,8 @@ fn bench_cases_p_and_q_verdicts() {
     for (sheet, book, answer) in sheets {
         let graph = BookGraph::new(&sheet.bytes(), book);
         let held = vec![7; graph.vertices()];
-        let given = compare_annotate(&mut Tally::default(), &graph, &held);
+        let path = graph.least_path();
+        let given = compare_annotate(&mut Tally::default(), &graph, &held, path);
         assert_eq!(given, answer);
     }
 }
@@ -655,7 +982,7 @@ fn longest_counter_numbers_every_vertex() {
 }
 
 /// The order of two faults at once: the sheet's, then the book's form and its
-/// entries, then the buffer, also where the book loops.
+/// entries, whatever the buffers.
 #[test]
 fn first_refusal_decides() {
     let mut tally = Tally::default();
@@ -663,14 +990,48 @@ fn first_refusal_decides() {
     wrong_entry[4] = 0x10;
     let mut wrong_form = wrong_entry;
     wrong_form[19] = 0;
-    let cases: [(&[u8], &[u8], Refusal); 4] = [
+    let cases: [(&[u8], &[u8], Refusal); 3] = [
         (&SHEET_A[..59], &wrong_form, CUT_OFF),
         (&SHEET_A, &wrong_form, WRONG_FORM),
         (&SHEET_A, &wrong_entry, WRONG_ENTRY),
-        (&case_f(1).bytes(), &BOOK_E, SHORT_ANNOTATION),
     ];
     for (sheet, book, answer) in cases {
         let graph = BookGraph::new(sheet, book);
-        assert_eq!(compare(&mut tally, &graph, &[]), (answer, answer));
+        for path in [0, 127, 128] {
+            for held in [&[][..], &ANNOTATION_A] {
+                assert_eq!(compare(&mut tally, &graph, held, path), (answer, answer));
+            }
+        }
+    }
+}
+
+/// Then the path and after it the annotation's buffer, also where the book loops.
+/// Judging has no path.
+#[test]
+fn path_is_refused_before_the_annotation() {
+    let mut tally = Tally::default();
+    let case_a = BookGraph::new(&SHEET_A, &BOOK_A);
+    let case_f = BookGraph::new(&case_f(1).bytes(), &BOOK_E);
+    let case_s = BookGraph::new(&SHEET_S, &book_s(0x01, 0x02));
+    let cases = [
+        (case_a, &ANNOTATION_A[..], POSITIVE),
+        (case_f, &[7], NEGATIVE),
+        (case_s, &[7, 7], NEGATIVE),
+    ];
+    for (graph, held, found) in cases {
+        let least = 4 * held.len();
+        let short = &held[1..];
+        for path in [0, 1, least / 2, least - 1] {
+            let given = compare(&mut tally, &graph, held, path);
+            assert_eq!(given, (found, SHORT_PATH));
+            let given = compare(&mut tally, &graph, short, path);
+            assert_eq!(given, (SHORT_ANNOTATION, SHORT_PATH));
+        }
+        for path in [least, least + 1, 4 * least] {
+            let given = compare(&mut tally, &graph, held, path);
+            assert_eq!(given, (found, found));
+            let given = compare(&mut tally, &graph, short, path);
+            assert_eq!(given, (SHORT_ANNOTATION, SHORT_ANNOTATION));
+        }
     }
 }

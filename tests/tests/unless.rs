@@ -1,8 +1,11 @@
 //! The library with edges that say unless against itself without them: each is
 //! replaced by the edges that it stands for, and all that is written is compared.
+//! Only the run to a rejecting loop is not, since its edges have other numbers
+//! then: it is replayed.
 
 use soclethyme_tests::few_choices;
 use soclethyme_tests::ffi::{self, NEGATIVE, POSITIVE};
+use soclethyme_tests::lasso::{least_path, Lasso};
 use soclethyme_tests::random_books::with_book;
 use soclethyme_tests::random_sheets::{self, shapes};
 use soclethyme_tests::rejecting_loops;
@@ -10,6 +13,7 @@ use soclethyme_tests::rng::Rng;
 use soclethyme_tests::sheet::Sheet;
 use soclethyme_tests::tally::Tally;
 use soclethyme_tests::text::hex;
+use soclethyme_tests::transition_system::TransitionSystem;
 
 const SEED: u64 = 0x5EED_0007;
 
@@ -59,7 +63,12 @@ impl Replaced {
     fn compare_annotate(&self, tally: &mut Tally, book: &[u8]) {
         self.same(tally, "annotate", |sheet| {
             let mut annotation = vec![0xEEEE; self.vertices + 3];
-            let answer = ffi::annotate(sheet, book, &mut annotation);
+            let mut path = vec![0xEE; least_path(self.vertices)];
+            let mut lengths = [0; 2];
+            let answer = ffi::annotate(sheet, book, &mut annotation, &mut path, &mut lengths);
+            if answer == NEGATIVE {
+                assert_replays(sheet, book, &path, lengths);
+            }
             (answer, annotation)
         });
     }
@@ -70,6 +79,13 @@ impl Replaced {
             let answer = ffi::find(sheet, &mut book, &mut annotation);
             (answer, (book, annotation))
         });
+    }
+}
+
+fn assert_replays(sheet: &[u8], book: &[u8], path: &[u8], lengths: [u32; 2]) {
+    let system = TransitionSystem::read(sheet, book).expect("a proper sheet and book");
+    if let Err(fault) = Lasso::replayed(&system, path, lengths) {
+        panic!("{fault:?}, sheet {}, book {}", hex(sheet), hex(book));
     }
 }
 

@@ -1,8 +1,9 @@
 // The public calls, each with the lines that say what it answered and wrote. A lent buffer is exactly as long as what is written there, and
 // holds 7 before, so that a 0 that is printed was written.
-ghost use Prim.Native.Nat.{_≤_};
+ghost use Prim.Native.Nat.{_+_, _*_, _≤_};
 ghost use lib.ListN.{length};
 use crate::print;
+use judging::Annotated;
 use layout::TB;
 use model::Finding;
 use model::Outcome;
@@ -121,10 +122,23 @@ pub fn judge(case: &[u8], sheet: &[u8], book: &[u8], annotation: &[u16]) {
     }
 }
 
-// Annotates the book into this buffer, and judges what was written.
-fn annotate_into(case: &[u8], sheet: &[u8], book: &[u8], annotation: &mut [u16]) {
+// The rest of the line of `loop`: how many steps the two parts of the run have, and their bytes.
+fn run(annotated: Annotated, path: &[u8])
+    requires { ⌜ (2 * (annotated .stem + annotated .cycle) ≤ length (now path)) × (annotated .stem + annotated .cycle ≤ 8192) ⌝ }
+{
+    print::text(b" loop ");
+    print::number(annotated.stem as u64);
+    print::text(b" ");
+    print::number(annotated.cycle as u64);
+    let end = 2 * (annotated.stem + annotated.cycle);
+    print::bytes(&path[0..end]);
+}
+
+// Annotates the book into these buffers, and judges what was written.
+fn annotate_into(case: &[u8], sheet: &[u8], book: &[u8], annotation: &mut [u16], path: &mut [u8]) {
     open(case, b"annotate");
-    let verdict = planner::annotate(sheet, book, annotation);
+    let annotated = planner::annotate(sheet, book, annotation, path);
+    let verdict = annotated.verdict;
     match verdict {
         Verdict::Refused(refusal) => refused(refusal),
         Verdict::Found(finding) => match finding {
@@ -132,17 +146,31 @@ fn annotate_into(case: &[u8], sheet: &[u8], book: &[u8], annotation: &mut [u16])
                 print::annotation(annotation);
                 judge(case, sheet, book, annotation);
             }
-            Finding::No => print::text(b" loop\n"),
+            Finding::No => run(annotated, path),
         },
     }
 }
 
-// Annotates the book: its annotation has this many numbers.
+// Annotates the book: its annotation has this many numbers, and the path this many bytes.
+pub fn annotate_with(case: &[u8], sheet: &[u8], book: &[u8], numbers: usize, bytes: usize)
+    requires { ⌜ (numbers ≤ 4096) × (bytes ≤ 16384) ⌝ }
+{
+    let mut annotation = [7u16; 4096];
+    let mut path = [7u8; 16384];
+    annotate_into(
+        case,
+        sheet,
+        book,
+        &mut annotation[0..numbers],
+        &mut path[0..bytes],
+    );
+}
+
+// Annotates the book: its annotation has this many numbers, and the path is as long as is asked.
 pub fn annotate(case: &[u8], sheet: &[u8], book: &[u8], numbers: usize)
     requires { ⌜ numbers ≤ 4096 ⌝ }
 {
-    let mut annotation = [7u16; 4096];
-    annotate_into(case, sheet, book, &mut annotation[0..numbers]);
+    annotate_with(case, sheet, book, numbers, 4 * numbers);
 }
 
 // Writes the tables as a book into this buffer.

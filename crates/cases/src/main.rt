@@ -7,6 +7,7 @@ mod prompts;
 mod sheets;
 
 use calls::annotate;
+use calls::annotate_with;
 use calls::check;
 use calls::check_front;
 use calls::find;
@@ -27,6 +28,7 @@ use sheets::CASE_F;
 use sheets::CASE_H;
 use sheets::CASE_J;
 use sheets::CASE_J_THIRD;
+use sheets::CASE_L;
 use sheets::CASE_S;
 use sheets::CASE_S_NONE;
 use sheets::CASE_S_UNTIED;
@@ -190,6 +192,20 @@ fn case_s() {
     annotate(b"S 01, 08, last byte 4F", &sheet, &broken, 2);
 }
 
+// The only run: out of state 0 along an EX, by direction 1, on by direction 0, and round.
+fn case_l() {
+    annotate(b"L", &CASE_L, &BOOK_E, 6);
+}
+
+// A path buffer that is too short is refused whether or not there is a loop, and before a short annotation.
+fn paths() {
+    annotate_with(b"F 1, path of 3", &CASE_F, &BOOK_E, 1, 3);
+    annotate_with(b"E, path of 3", &CASE_E, &BOOK_E, 1, 3);
+    annotate_with(b"E, path of 3, annotation of 0", &CASE_E, &BOOK_E, 0, 3);
+    annotate_with(b"E, path of 4, annotation of 0", &CASE_E, &BOOK_E, 0, 4);
+    annotate_with(b"L, path of 23", &CASE_L, &BOOK_E, 6, 23);
+}
+
 // Two pairs of tied processes, and all four in one.
 fn case_u() {
     find(b"U", &CASE_U, 50, 48);
@@ -238,4 +254,6 @@ fn main() {
     case_u();
     ties();
     prompts();
+    case_l();
+    paths();
 }

@@ -111,6 +111,12 @@ pub const BOOK_E: [u8; 8] = *b"TB\x00\x00\x00\x00EN";
 // E with state 0 rejecting, and an edge from it to itself.
 pub const CASE_F: [u8; 24] = *b"AR\x00\x00\x00PR\x00\x00\x01AU\x01\x00\x01\x00ED\x00\x00\x00\x00EN";
 
+// One environment variable, and a process with nothing to read or set. Out of state 0 unless the variable is 1, into the rejecting state 2 where it is,
+// and round there while it is not; an edge that is not met comes first.
+pub const CASE_L: [u8; 42] = *b"\
+    AR\x01\x01\x00PR\x00\x00\x01AU\x03\x00\x04\x00\
+    ED\x00\x01\x01\x00EX\x00\x01\x01\x00ED\x01\x02\x01\x00ED\x02\x02\x00\x01EN";
+
 // E with states 0 and 1, of which 0 is rejecting, and an edge from 0 to 1.
 pub const CASE_H: [u8; 24] = *b"AR\x00\x00\x00PR\x00\x00\x01AU\x02\x00\x01\x00ED\x00\x01\x00\x00EN";
 

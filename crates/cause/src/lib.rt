@@ -54,6 +54,7 @@ fn say_cause(refusal: Refusal) {
         Refusal::BadBook => say(b"the book has the wrong length, or a byte other than the one due"),
         Refusal::BadEntry => say(b"an entry has a value that it may not have, or a tie is broken"),
         Refusal::NoSuchProcess => say(b"there is no process of that number"),
+        Refusal::PathBufferTooShort => say(b"the path buffer is too short"),
         Refusal::BadTie => say(
             b"an SY names a process that there is not, one process twice, or two that do not match",
         ),

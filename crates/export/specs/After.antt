@@ -1,9 +1,12 @@
--- What a C caller gets of reading and of asking for a part. These are definitions.
-use mathlib.Core.List.{List}
+-- What a C caller gets of reading, of asking for a part and of annotating. These are definitions.
+use mathlib.Core.Path.{_≡_}
+use mathlib.Core.List.{List, [], _∷_}
 use Prim.Native.Nat.{ℕ, _+_, _*_}
+use Rattle.model.specs.declared.Finding.the-variants.{Yes, No}
+use Rattle.model.specs.declared.Verdict.{Verdict}
 use Rattle.model.specs.declared.Reply.{Reply}
 use Rattle.model.specs.Numbers.{number}
-use Rattle.model.specs.Calls.{AfterRead, AfterPart}
+use Rattle.model.specs.Calls.{AfterRead, AfterPart, annotateOf, AnnotatePath}
 
 -- the new tables where reading was not refused
 unfoldable pub tablesBy : Reply → List ℕ → List ℕ → List ℕ
@@ -22,3 +25,16 @@ partBy (Reply.Refused r) start end = number r
 -- the end times 65,536 plus the start, or the refusal's number
 abbrev pub partCode : AfterPart → ℕ
 partCode a = partBy (a .answer) (a .start) (a .end)
+
+-- the two lengths are written on `loop` only
+unfoldable pub lengthsBy : Verdict → (stem cycle : ℕ) → List ℕ → List ℕ
+lengthsBy (Verdict.Refused r) stem cycle old = old
+lengthsBy (Verdict.Found Yes) stem cycle old = old
+lengthsBy (Verdict.Found No) stem cycle old = stem ∷ cycle ∷ []
+
+-- what annotate leaves of the path, and its two lengths
+pub record RunAfter (sheet book ann path lengths path′ lengths′ : List ℕ) : Type 0 where
+  pub stem : ℕ
+  pub cycle : ℕ
+  pub run : AnnotatePath sheet book ann path (record { stem = stem; cycle = cycle; path = path′ })
+  pub lengths-are : lengths′ ≡ lengthsBy (annotateOf sheet book ann path .answer) stem cycle lengths

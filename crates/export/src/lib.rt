@@ -2,7 +2,7 @@
 ghost use mathlib.Core.Path.{_≡_};
 ghost use Rattle.model.specs.Numbers.{replyCode, findingCode, verdictCode, outcomeCode};
 ghost use Rattle.model.specs.Calls.{checkOf, findOf, writeOf, readOf, partOf, judgeOf, annotateOf};
-ghost use Rattle.export.specs.After.{tablesAfter, partCode};
+ghost use Rattle.export.specs.After.{tablesAfter, partCode, RunAfter};
 use model::Finding;
 use model::Outcome;
 use model::Reply;
@@ -106,10 +106,29 @@ pub extern "C" fn soclethyme_judge(sheet: &[u8], book: &[u8], annotation: &[u16]
     verdict_code(planner::judge(sheet, book, annotation))
 }
 
+// The two lengths are written on `loop` only.
 #[no_mangle]
-pub extern "C" fn soclethyme_annotate(sheet: &[u8], book: &[u8], annotation: &mut [u16]) -> u32
-    ensures { λ r. ⌜ r ≡ verdictCode (annotateOf (now (sheet .entry)) (now (book .entry)) (now (annotation .entry)) .answer) ⌝ }
-    ensures { λ _. ⌜ now (annotation .exit) ≡ annotateOf (now (sheet .entry)) (now (book .entry)) (now (annotation .entry)) .annotation ⌝ }
+pub extern "C" fn soclethyme_annotate(
+    sheet: &[u8],
+    book: &[u8],
+    annotation: &mut [u16],
+    path: &mut [u8],
+    lengths: &mut [u32; 2],
+) -> u32
+    ensures { λ r. ⌜ r ≡ verdictCode (annotateOf (now (sheet .entry)) (now (book .entry)) (now (annotation .entry)) (now (path .entry)) .answer) ⌝ }
+    ensures { λ _. ⌜ now (annotation .exit) ≡ annotateOf (now (sheet .entry)) (now (book .entry)) (now (annotation .entry)) (now (path .entry)) .annotation ⌝ }
+    ensures { λ _. ⌜ RunAfter (now (sheet .entry)) (now (book .entry)) (now (annotation .entry)) (now (path .entry)) (now (lengths .entry)) (now (path .exit)) (now (lengths .exit)) ⌝ }
 {
-    verdict_code(planner::annotate(sheet, book, annotation))
+    let annotated = planner::annotate(sheet, book, annotation, path);
+    let verdict = annotated.verdict;
+    match verdict {
+        Verdict::Refused(refusal) => refusal.number(),
+        Verdict::Found(finding) => match finding {
+            Finding::Yes => 0,
+            Finding::No => {
+                *lengths = [annotated.stem as u32, annotated.cycle as u32];
+                256
+            }
+        },
+    }
 }

@@ -1,3 +1,4 @@
 -- What the proofs of several functions use.
 pub mod BookGivesChoice
 pub mod RoomForNumbers
+pub mod RoomForPath

@@ -4,12 +4,12 @@ use mathlib.Core.Bool.{Bool, true, false, true≢false}
 use mathlib.Core.Logic.{_⊎_, inl, inr, _↔_, ⊎-elim}
 use mathlib.Core.List.{List, [], _∷_, List·Memᴰ, List·Memᴰ·head, List·Memᴰ·tail}
 use mathlib.Core.Option.{Option, none, some}
-use Prim.Native.Nat.{ℕ, _≤_, _<_}
+use Prim.Native.Nat.{ℕ, _*_, _≤_, _<_}
 use native.Mathlib.Omega.{arith}
 use lib.ListN.{length}
 use borrow.Author.Tests.{ltb-true, ltb-false, lt-ltb, le-ltb, leb-true, leb-false, le-leb, lt-leb}
 use Rattle.model.specs.declared.Refusal.{Refusal}
-use Rattle.model.specs.declared.Refusal.the-variants.{BookBufferTooShort, AnnotationBufferTooShort, BadBook, BadEntry, NoSuchProcess}
+use Rattle.model.specs.declared.Refusal.the-variants.{BookBufferTooShort, AnnotationBufferTooShort, BadBook, BadEntry, NoSuchProcess, PathBufferTooShort}
 use Rattle.model.specs.declared.Finding.{Finding}
 use Rattle.model.specs.declared.Verdict.{Verdict}
 use Rattle.model.specs.declared.Reply.{Reply}
@@ -21,10 +21,10 @@ use Rattle.model.specs.Choice.{IsChoice, chosen}
 use Rattle.model.specs.RunGraph.{vertices}
 use Rattle.model.specs.Computed.{loops, firstChoice}
 use Rattle.model.specs.Book.{bookLength, bookOf, entryFault, readBook}
-use Rattle.model.specs.Calls.{annotationShort, bookShort, reply, checkOf, roomToFind, findSheet, findChoice, findIn, findOf, Chosen, roomFor, bookFor, bookAndRoom, judged, judgeOf}
-use Rattle.model.specs.Calls.{annotatedBy, annotated, annotateOf, writtenFor, written, wrote, writeOf, gave, readOf, noProcess, partFor, partArchitecture, cut, partOf}
+use Rattle.model.specs.Calls.{annotationShort, pathShort, bookShort, reply, checkOf, roomToFind, findSheet, findChoice, findIn, findOf, Chosen, roomFor, bookFor, bookAndRoom, judged, judgeOf}
+use Rattle.model.specs.Calls.{roomsFor, bookAndRoomsFor, bookAndRooms, annotatedBy, annotated, annotateOf, writtenFor, written, wrote, writeOf, gave, readOf, noProcess, partFor, partArchitecture, cut, partOf}
 use Rattle.model.specs.Refusals.{Formed, BookRefused, not-formed, no-choice, Among}
-use Rattle.model.specs.Refusals.{FindRefused, JudgeRefused, WriteRefused, ReadRefused, PartRefused}
+use Rattle.model.specs.Refusals.{FindRefused, JudgeRefused, AnnotateRefused, WriteRefused, ReadRefused, PartRefused}
 use Rattle.model.proofs.Refusing.{stop, go, refused≢proper, same-refused, refused-when, refused-then, then-refused, then-read}
 use Rattle.model.proofs.BookRead.{chosen-faultless, faultless-chosen, chosen-faulty, choice-formed, choice-read, read-choice, book-refused, refused-book}
 
@@ -99,32 +99,94 @@ tests-find sheet book ann r (FindRefused.by-sheet q e) = then-refused _ e
 tests-find sheet book ann r (FindRefused.short-book s e l) = then-read _ e ∙ stop BookBufferTooShort _ (lt-ltb _ _ l)
 tests-find sheet book ann r (FindRefused.short-annotation s e l m) = then-read _ e ∙ go BookBufferTooShort _ (le-ltb _ _ l) ∙ stop AnnotationBufferTooShort _ (lt-ltb _ _ m)
 
--- ---- judge and annotate: 10, 11, then 9
-judge-tests : (sheet book ann : List ℕ) (r : Refusal) → bookAndRoom sheet book ann ≡ refused r → JudgeRefused sheet book ann r
-unfolding bookAndRoom bookFor roomFor annotationShort
-judge-tests sheet book ann r e =
-    ⊎-elim (λ q. JudgeRefused.by-sheet r q) (λ h. tables (h .0) (h .1) (refused-then (readBook (h .0 .architecture) book) _ r (h .2))) (refused-then (readSheet sheet) _ r e)
-  where
-    short : (s : Sheet) (c : List ℕ) → readSheet sheet ≡ proper s → readBook (s .architecture) book ≡ proper c
-        → ((annotationShort s ann ≡ true) × (AnnotationBufferTooShort ≡ r)) ⊎ ((annotationShort s ann ≡ false) × (_≡_ {A = Reading Chosen} (proper record { sheet = s; choice = c }) (refused r)))
-        → JudgeRefused sheet book ann r
-    short s c p q (inl h) =
-        let k = read-choice (s .architecture) book c q in
-        subst (JudgeRefused sheet book ann) (h .1) (JudgeRefused.short-annotation s c p (choice-formed (s .architecture) book c (k .0) (k .1)) (k .0) (ltb-true _ _ (h .0)))
-    short s c p q (inr h) = absurd (refused≢proper r _ (sym (h .1)))
+-- ---- judge and annotate: 10, 11, then what the room for the answer is refused for
+-- the sheet and the book are read, and then it is refused
+pub record Behind (sheet book : List ℕ) (room : Sheet → List ℕ → Reading Chosen) (r : Refusal) : Type 0 where
+  pub read : Sheet
+  pub choice : List ℕ
+  pub is-proper : readSheet sheet ≡ proper read
+  pub formed : Formed (read .architecture) book choice
+  pub is-choice : IsChoice (read .architecture) choice
+  pub no-room : room read choice ≡ refused r
 
-    tables : (s : Sheet) → readSheet sheet ≡ proper s
-        → (readBook (s .architecture) book ≡ refused r) ⊎ ((c : List ℕ) × (readBook (s .architecture) book ≡ proper c)
-        × (_≡_ {A = Reading Chosen} (refuse_when_else_ AnnotationBufferTooShort (annotationShort s ann) (proper record { sheet = s; choice = c })) (refused r))) → JudgeRefused sheet book ann r
-    tables s p (inl q) = JudgeRefused.by-book s r p (book-refused (s .architecture) book r q)
-    tables s p (inr h) = short s (h .0) p (h .1) (refused-when AnnotationBufferTooShort _ _ r (h .2))
+module _ (sheet book : List ℕ) (room : Sheet → List ℕ → Reading Chosen) where
+  behind-tests : (r : Refusal) → (readSheet sheet then λ s. readBook (s .architecture) book then λ c. room s c) ≡ refused r
+      → (readSheet sheet ≡ refused r) ⊎ (((s : Sheet) × (readSheet sheet ≡ proper s) × BookRefused (s .architecture) book r) ⊎ Behind sheet book room r)
+  behind-tests r e =
+      ⊎-elim (λ q. inl q) (λ h. inr (tables (h .0) (h .1) (refused-then (readBook (h .0 .architecture) book) _ r (h .2)))) (refused-then (readSheet sheet) _ r e)
+    where
+      tables : (s : Sheet) → readSheet sheet ≡ proper s
+          → (readBook (s .architecture) book ≡ refused r) ⊎ ((c : List ℕ) × (readBook (s .architecture) book ≡ proper c) × (room s c ≡ refused r))
+          → ((s : Sheet) × (readSheet sheet ≡ proper s) × BookRefused (s .architecture) book r) ⊎ Behind sheet book room r
+      tables s p (inl q) = inl (s, p, book-refused (s .architecture) book r q)
+      tables s p (inr h) =
+          let k = read-choice (s .architecture) book (h .0) (h .1) in
+          inr record { read = s; choice = h .0; is-proper = p; formed = choice-formed (s .architecture) book (h .0) (k .0) (k .1); is-choice = k .0; no-room = h .2 }
+
+  tests-book : (s : Sheet) (r : Refusal) → readSheet sheet ≡ proper s → BookRefused (s .architecture) book r
+      → (readSheet sheet then λ s. readBook (s .architecture) book then λ c. room s c) ≡ refused r
+  tests-book s r e h = then-read _ e ∙ then-refused _ (refused-book (s .architecture) book r h)
+
+  tests-room : (s : Sheet) (c : List ℕ) → readSheet sheet ≡ proper s → Formed (s .architecture) book c → IsChoice (s .architecture) c
+      → (readSheet sheet then λ s. readBook (s .architecture) book then λ c. room s c) ≡ room s c
+  tests-room s c e f choice = then-read _ e ∙ then-read _ (choice-read (s .architecture) book c choice (f .is-book))
+
+-- 9
+room-tests : (s : Sheet) (c ann : List ℕ) (r : Refusal) → roomFor s c ann ≡ refused r → (length ann < vertices s) × (AnnotationBufferTooShort ≡ r)
+unfolding roomFor annotationShort
+room-tests s c ann r e = ⊎-elim
+    (λ h. (ltb-true _ _ (h .0), h .1))
+    (λ h. absurd (refused≢proper r _ (sym (h .1))))
+    (refused-when AnnotationBufferTooShort (annotationShort s ann) _ r e)
+
+tests-room-for : (s : Sheet) (c ann : List ℕ) → length ann < vertices s → roomFor s c ann ≡ refused AnnotationBufferTooShort
+unfolding roomFor annotationShort
+tests-room-for s c ann l = stop AnnotationBufferTooShort _ (lt-ltb _ _ l)
+
+judge-tests : (sheet book ann : List ℕ) (r : Refusal) → bookAndRoom sheet book ann ≡ refused r → JudgeRefused sheet book ann r
+unfolding bookAndRoom bookFor
+judge-tests sheet book ann r e = ⊎-elim
+    (λ q. JudgeRefused.by-sheet r q)
+    (λ o. ⊎-elim (λ q. JudgeRefused.by-book (q .0) r (q .1) (q .2)) short o)
+    (behind-tests sheet book (λ s c. roomFor s c ann) r e)
+  where
+    short : Behind sheet book (λ s c. roomFor s c ann) r → JudgeRefused sheet book ann r
+    short k =
+        let h = room-tests (k .read) (k .choice) ann r (k .no-room) in
+        subst (JudgeRefused sheet book ann) (h .1) (JudgeRefused.short-annotation (k .read) (k .choice) (k .is-proper) (k .formed) (k .is-choice) (h .0))
 
 tests-judge : (sheet book ann : List ℕ) (r : Refusal) → JudgeRefused sheet book ann r → bookAndRoom sheet book ann ≡ refused r
-unfolding bookAndRoom bookFor roomFor annotationShort
+unfolding bookAndRoom bookFor
 tests-judge sheet book ann r (JudgeRefused.by-sheet q e) = then-refused _ e
-tests-judge sheet book ann r (JudgeRefused.by-book s q e h) = then-read _ e ∙ then-refused _ (refused-book (s .architecture) book r h)
-tests-judge sheet book ann r (JudgeRefused.short-annotation s c e f choice l) =
-    then-read _ e ∙ then-read _ (choice-read (s .architecture) book c choice (f .is-book)) ∙ stop AnnotationBufferTooShort _ (lt-ltb _ _ l)
+tests-judge sheet book ann r (JudgeRefused.by-book s q e h) = tests-book sheet book (λ s c. roomFor s c ann) s r e h
+tests-judge sheet book ann r (JudgeRefused.short-annotation s c e f choice l) = tests-room sheet book (λ s c. roomFor s c ann) s c e f choice ∙ tests-room-for s c ann l
+
+-- ---- annotate: 13, then 9
+annotate-tests : (sheet book ann path : List ℕ) (r : Refusal) → bookAndRooms sheet book ann path ≡ refused r → AnnotateRefused sheet book ann path r
+unfolding bookAndRooms bookAndRoomsFor roomsFor pathShort
+annotate-tests sheet book ann path r e = ⊎-elim
+    (λ q. AnnotateRefused.by-sheet r q)
+    (λ o. ⊎-elim (λ q. AnnotateRefused.by-book (q .0) r (q .1) (q .2)) (λ k. short k (refused-when PathBufferTooShort (pathShort (k .read) path) _ r (k .no-room))) o)
+    (behind-tests sheet book (λ s c. roomsFor s c ann path) r e)
+  where
+    short : (k : Behind sheet book (λ s c. roomsFor s c ann path) r)
+        → ((pathShort (k .read) path ≡ true) × (PathBufferTooShort ≡ r)) ⊎ ((pathShort (k .read) path ≡ false) × (roomFor (k .read) (k .choice) ann ≡ refused r))
+        → AnnotateRefused sheet book ann path r
+    short k (inl h) =
+        subst (AnnotateRefused sheet book ann path) (h .1) (AnnotateRefused.short-path (k .read) (k .choice) (k .is-proper) (k .formed) (k .is-choice) (ltb-true _ _ (h .0)))
+    short k (inr h) =
+        let n = room-tests (k .read) (k .choice) ann r (h .1) in
+        subst (AnnotateRefused sheet book ann path) (n .1)
+        (AnnotateRefused.short-annotation (k .read) (k .choice) (k .is-proper) (k .formed) (k .is-choice) (ltb-false _ _ (h .0)) (n .0))
+
+tests-annotate : (sheet book ann path : List ℕ) (r : Refusal) → AnnotateRefused sheet book ann path r → bookAndRooms sheet book ann path ≡ refused r
+unfolding bookAndRooms bookAndRoomsFor roomsFor pathShort
+tests-annotate sheet book ann path r (AnnotateRefused.by-sheet q e) = then-refused _ e
+tests-annotate sheet book ann path r (AnnotateRefused.by-book s q e h) = tests-book sheet book (λ s c. roomsFor s c ann path) s r e h
+tests-annotate sheet book ann path r (AnnotateRefused.short-path s c e f choice l) =
+    tests-room sheet book (λ s c. roomsFor s c ann path) s c e f choice ∙ stop PathBufferTooShort _ (lt-ltb _ _ l)
+tests-annotate sheet book ann path r (AnnotateRefused.short-annotation s c e f choice l n) =
+    tests-room sheet book (λ s c. roomsFor s c ann path) s c e f choice ∙ go PathBufferTooShort _ (le-ltb _ _ l) ∙ tests-room-for s c ann n
 
 -- ---- write: 11, then 8
 write-tests : (sheet tables book : List ℕ) (r : Refusal) → written sheet tables book ≡ refused r → WriteRefused sheet tables book r
@@ -196,9 +258,10 @@ pub judge-exactly : (sheet book ann : List ℕ) (r : Refusal) → (judgeOf sheet
 unfolding judgeOf
 judge-exactly sheet book ann r = both (judge-answer r (bookAndRoom sheet book ann) ann) (judge-tests sheet book ann r) (tests-judge sheet book ann r)
 
-pub annotate-exactly : (sheet book ann : List ℕ) (r : Refusal) → (annotateOf sheet book ann .answer ≡ Verdict.Refused r) ↔ JudgeRefused sheet book ann r
+pub annotate-exactly : (sheet book ann path : List ℕ) (r : Refusal) → (annotateOf sheet book ann path .answer ≡ Verdict.Refused r) ↔ AnnotateRefused sheet book ann path r
 unfolding annotateOf
-annotate-exactly sheet book ann r = both (annotate-answer r (bookAndRoom sheet book ann) ann) (judge-tests sheet book ann r) (tests-judge sheet book ann r)
+annotate-exactly sheet book ann path r =
+    both (annotate-answer r (bookAndRooms sheet book ann path) ann) (annotate-tests sheet book ann path r) (tests-annotate sheet book ann path r)
 
 pub write-exactly : (sheet tables book : List ℕ) (r : Refusal) → (writeOf sheet tables book .answer ≡ Reply.Refused r) ↔ WriteRefused sheet tables book r
 unfolding writeOf

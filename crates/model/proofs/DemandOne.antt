@@ -1,4 +1,5 @@
--- Demand 1: a sheet and a call are refused exactly as 01 says, by its numbers and no others, and no refusal, `none` or `loop` changes a buffer.
+-- Demand 1: a sheet and a call are refused exactly as 01 says, by its numbers and no others, and no refusal or `none` changes a buffer; `loop` leaves the
+-- annotation, and what is no `loop` the path.
 use mathlib.Core.Path.{_≡_, refl, sym, ap, _∙_}
 use mathlib.Core.Bool.{Bool, true, false}
 use mathlib.Core.Logic.{_⊎_, inl, inr, _↔_}
@@ -9,6 +10,7 @@ use native.Mathlib.Omega.{arith}
 use lib.ListN.{length, take}
 use Rattle.model.specs.declared.Refusal.{Refusal}
 use Rattle.model.specs.declared.Refusal.the-variants.{SheetTooShort, WrongMark}
+use Rattle.model.specs.declared.Finding.{Finding}
 use Rattle.model.specs.declared.Finding.the-variants.{Yes, No}
 use Rattle.model.specs.declared.Verdict.{Verdict}
 use Rattle.model.specs.declared.Reply.{Reply}
@@ -18,9 +20,9 @@ use Rattle.model.specs.Sheet.{Architecture, Sheet}
 use Rattle.model.specs.Reading.{Reading, refused, proper, readSheet}
 use Rattle.model.specs.SheetFile.{Bytes}
 use Rattle.model.specs.Computed.{loops, firstChoice}
-use Rattle.model.specs.Calls.{Chosen, reply, checkOf, findSheet, findChoice, findIn, findOf, bookAndRoom, annotatedBy}
-use Rattle.model.specs.Calls.{annotated, annotateOf, written, wrote, writeOf, partArchitecture, cut, partOf, part}
-use Rattle.model.specs.Refusals.{BookRefused, not-formed, no-choice, Among, FindRefused, JudgeRefused, WriteRefused, ReadRefused, PartRefused}
+use Rattle.model.specs.Calls.{Chosen, reply, checkOf, findSheet, findChoice, findIn, findOf, bookAndRooms, annotatedBy}
+use Rattle.model.specs.Calls.{annotated, annotateOf, AfterPath, pathLeft, PathBy, PathFor, AnnotatePath, written, wrote, writeOf, partArchitecture, cut, partOf, part}
+use Rattle.model.specs.Refusals.{BookRefused, not-formed, no-choice, Among, FindRefused, JudgeRefused, AnnotateRefused, WriteRefused, ReadRefused, PartRefused}
 use Rattle.model.specs.Demands.{demand-1}
 use Rattle.model.proofs.SheetNumbers.{early}
 use Rattle.model.proofs.CallRefusals.{check-answer, find-exactly, judge-exactly, annotate-exactly, write-exactly, read-exactly, part-exactly}
@@ -45,6 +47,12 @@ judge-among : (sheet book ann : List ℕ) (r : Refusal) → JudgeRefused sheet b
 judge-among sheet book ann r (JudgeRefused.by-sheet q e) = inl (early sheet r e)
 judge-among sheet book ann r (JudgeRefused.by-book s q e h) = inr (book-among (s .architecture) book r (9 ∷ []) h)
 judge-among sheet book ann r (JudgeRefused.short-annotation s c e f choice l) = inr (List·Memᴰ·tail (List·Memᴰ·tail (List·Memᴰ·head refl)))
+
+annotate-among : (sheet book ann path : List ℕ) (r : Refusal) → AnnotateRefused sheet book ann path r → Among (10 ∷ 11 ∷ 13 ∷ 9 ∷ []) r
+annotate-among sheet book ann path r (AnnotateRefused.by-sheet q e) = inl (early sheet r e)
+annotate-among sheet book ann path r (AnnotateRefused.by-book s q e h) = inr (book-among (s .architecture) book r (13 ∷ 9 ∷ []) h)
+annotate-among sheet book ann path r (AnnotateRefused.short-path s c e f choice l) = inr (List·Memᴰ·tail (List·Memᴰ·tail (List·Memᴰ·head refl)))
+annotate-among sheet book ann path r (AnnotateRefused.short-annotation s c e f choice l n) = inr (List·Memᴰ·tail (List·Memᴰ·tail (List·Memᴰ·tail (List·Memᴰ·head refl))))
 
 write-among : (sheet tables book : List ℕ) (r : Refusal) → WriteRefused sheet tables book r → Among (11 ∷ 8 ∷ []) r
 write-among sheet tables book r (WriteRefused.by-sheet q e) = inl (early sheet r e)
@@ -92,6 +100,15 @@ annotate-kept (proper x) ann v e n = by (loops (x .sheet) (x .choice)) e
     by true e = refl
     by false e = absurd (n (sym e))
 
+path-kept : (k : Reading Chosen) (ann path : List ℕ) (after : AfterPath) → ¬ (annotated k ann .answer ≡ Verdict.Found No) → PathFor k path after → after ≡ pathLeft path
+unfolding annotated annotatedBy PathFor PathBy
+path-kept (refused q) ann path after n p = p
+path-kept (proper x) ann path after n p = by (loops (x .sheet) (x .choice)) n p
+  where
+    by : (b : Bool) → ¬ (annotatedBy x b ann .answer ≡ Verdict.Found No) → PathBy x b path after → after ≡ pathLeft path
+    by true n p = absurd (n refl)
+    by false n p = p
+
 write-kept : (k : Reading (List ℕ)) (book : List ℕ) (r : Refusal) → wrote k book .answer ≡ Reply.Refused r → wrote k book .book ≡ book
 unfolding wrote
 write-kept (refused q) book r e = refl
@@ -108,14 +125,14 @@ refused≢tables r e = let z : _≡_ {A = ℕ} 0 1 = cc in omega arith
 nothing≢tables : ¬ (Outcome.Nothing ≡ Outcome.Tables)
 nothing≢tables e = let z : _≡_ {A = ℕ} 0 1 = cc in omega arith
 
-refused≢found : (r : Refusal) → ¬ (Verdict.Refused r ≡ Verdict.Found Yes)
-refused≢found r e = let z : _≡_ {A = ℕ} 0 1 = cc in omega arith
+refused≢found : (r : Refusal) (f : Finding) → ¬ (Verdict.Refused r ≡ Verdict.Found f)
+refused≢found r f e = let z : _≡_ {A = ℕ} 0 1 = cc in omega arith
 
 no≢yes : ¬ (Verdict.Found No ≡ Verdict.Found Yes)
 no≢yes e = let z : _≡_ {A = ℕ} 0 1 = cc in omega arith
 
 pub first-demand : demand-1
-unfolding checkOf findOf annotateOf writeOf partOf
+unfolding checkOf findOf annotateOf AnnotatePath writeOf partOf
 first-demand = record {
   proper-exactly = λ sheet s bytes. (
     λ e. classified.written sheet s bytes e,
@@ -142,14 +159,18 @@ first-demand = record {
   check-numbers = λ sheet r e. inl (early sheet r (check-refused sheet r .0 e));
   find-numbers = λ sheet book ann r e. find-among sheet book ann r (find-exactly sheet book ann r .0 e);
   judge-numbers = λ sheet book ann r e. judge-among sheet book ann r (judge-exactly sheet book ann r .0 e);
-  annotate-numbers = λ sheet book ann r e. judge-among sheet book ann r (annotate-exactly sheet book ann r .0 e);
+  annotate-numbers = λ sheet book ann path r e. annotate-among sheet book ann path r (annotate-exactly sheet book ann path r .0 e);
   write-numbers = λ sheet tables book r e. write-among sheet tables book r (write-exactly sheet tables book r .0 e);
   read-numbers = λ sheet book r e. read-among sheet book r (read-exactly sheet book r .0 e);
   part-numbers = λ sheet book i r e. part-among sheet book i r (part-exactly sheet book i r .0 e);
   find-refused = λ sheet book ann r e. find-kept (findSheet sheet book ann) book ann (Outcome.Refused r) e (refused≢tables r);
-  annotate-refused = λ sheet book ann r e. annotate-kept (bookAndRoom sheet book ann) ann (Verdict.Refused r) e (refused≢found r);
+  annotate-refused = λ sheet book ann path r e. (
+    annotate-kept (bookAndRooms sheet book ann path) ann (Verdict.Refused r) e (refused≢found r Yes),
+    λ after p. path-kept (bookAndRooms sheet book ann path) ann path after (λ q. refused≢found r No (sym e ∙ q)) p,
+  );
   write-refused = λ sheet tables book r e. write-kept (written sheet tables book) book r e;
   part-refused = λ sheet book i r e. part-kept (partArchitecture sheet book i) book i r e;
   none-writes-nothing = λ sheet book ann e. find-kept (findSheet sheet book ann) book ann Outcome.Nothing e nothing≢tables;
-  loop-writes-nothing = λ sheet book ann e. annotate-kept (bookAndRoom sheet book ann) ann (Verdict.Found No) e no≢yes;
+  loop-leaves-annotation = λ sheet book ann path e. annotate-kept (bookAndRooms sheet book ann path) ann (Verdict.Found No) e no≢yes;
+  no-loop-leaves-path = λ sheet book ann path after n p. path-kept (bookAndRooms sheet book ann path) ann path after n p;
 }

@@ -3,7 +3,7 @@ use mathlib.Core.Path.{_≡_, refl, sym, ap, _∙_, subst}
 use mathlib.Core.Bool.{false}
 use mathlib.Core.List.{List}
 use mathlib.Core.Option.{Option, none, some}
-use Prim.Native.Nat.{ℕ, _≤_}
+use Prim.Native.Nat.{ℕ, _*_, _≤_}
 use native.Mathlib.Omega.{arith}
 use lib.ListN.{length, take, drop}
 use lib.Seq.{take-at}
@@ -18,14 +18,14 @@ use Rattle.model.specs.Choice.{IsChoice, padded}
 use Rattle.model.specs.RunGraph.{vertices, RejectingLoop, Keeps}
 use Rattle.model.specs.Computed.{loops, keeps, annotation, firstChoice}
 use Rattle.model.specs.Book.{form, bookLength, bookOf}
-use Rattle.model.specs.Calls.{front, bookShort, annotationShort, AfterFind, findSheet, findChoice, findIn, findOf, judgeOf, AfterAnnotate, annotateOf, roomToFind}
+use Rattle.model.specs.Calls.{front, bookShort, annotationShort, AfterFind, findSheet, findChoice, findIn, findOf, judgeOf, annotateOf, roomToFind}
 use Rattle.model.specs.Demands.{Annotates, Weighed, First, bookFound, demand-3}
 use Rattle.model.proofs.ProperSheet.{passes, goes-on, sheet-proper}
 use Rattle.model.proofs.ComputedTests.{loops-exactly, keeps-exactly}
 use Rattle.model.proofs.AnnotationExact.{annotates}
 use Rattle.model.proofs.BookInverse.{filled-length}
 use Rattle.model.proofs.AnnotationPasses.{valid-exactly-where-kept, valid-bounded}
-use Rattle.model.proofs.DemandTwo.{annotate-kept, passes-judge}
+use Rattle.model.proofs.DemandTwo.{exchanged, annotate-kept, passes-own}
 use Rattle.model.proofs.ChoicesInOrder.{choices-in-order}
 use Rattle.model.proofs.FirstUnique.{found-none, found-some}
 use Rattle.model.proofs.FewerStates.{padded-is-tables}
@@ -119,12 +119,15 @@ module _ (sheet book ann : List ℕ) (s : Sheet) (not-refused : findSheet sheet 
       holds = the-first c e .keeps;
     }
 
-    agrees : annotateOf sheet own ann ≡ record { answer = Verdict.Found Yes; annotation = findOf sheet book ann .annotation }
-    unfolding own-weighed
-    agrees = annotate-kept sheet own ann own-weighed ∙ ap (λ (a : AfterFind). record { answer = Verdict.Found Yes; annotation = a .annotation }) (sym (found c e))
+    agrees : (path : List ℕ) → 4 * vertices s ≤ length path → annotateOf sheet own ann path ≡ record { answer = Verdict.Found Yes; annotation = findOf sheet book ann .annotation }
+    unfolding own-weighed exchanged
+    agrees path room =
+        annotate-kept sheet own ann path (exchanged sheet own ann own-weighed (λ good choice. (room, own-weighed .holds)))
+        ∙ ap (λ (a : AfterFind). record { answer = Verdict.Found Yes; annotation = a .annotation }) (sym (found c e))
 
     passed : judgeOf sheet own (findOf sheet book ann .annotation) ≡ Verdict.Found Yes
-    passed = ap (λ (a : AfterAnnotate). judgeOf sheet own (a .annotation)) (sym agrees) ∙ passes-judge sheet own ann own-weighed
+    unfolding own-weighed
+    passed = ap (λ (a : AfterFind). judgeOf sheet own (a .annotation)) (found c e) ∙ passes-own sheet own ann own-weighed
 
   -- it is the book of a choice
   pub own-choice : findOf sheet book ann .answer ≡ Outcome.Tables → (c : List ℕ) × IsChoice (s .architecture) c × (bookOf (s .architecture) c ≡ own)
@@ -140,5 +143,5 @@ module _ (sheet book ann : List ℕ) (s : Sheet) (not-refused : findSheet sheet 
     valid-exists = λ c choice. valid-exactly-where-kept s c good (choice .tables);
     valid-bounded = λ c choice. valid-bounded s c good (choice .tables);
     passes-judge = λ q. let r = answer-tables (firstChoice s) refl q in passed (r .0) (r .1);
-    annotate-agrees = λ q. let r = answer-tables (firstChoice s) refl q in agrees (r .0) (r .1);
+    annotate-agrees = λ path room q. let r = answer-tables (firstChoice s) refl q in agrees (r .0) (r .1) path room;
   }

@@ -11,6 +11,7 @@ use Rattle.model.specs.Compose.{rowLength}
 use Rattle.model.specs.Book.{due, records, allRecords, form, bookLength}
 use Rattle.model.specs.Demands.{sizes}
 use Rattle.model.proofs.ProperSheet.{sheet-proper, sheet-short}
+use Rattle.model.proofs.RunGraphSteps.{vertices-few}
 use Rattle.model.proofs.EntriesBound.{row-few, choice-short}
 use Rattle.model.proofs.PartIsRecords.{records-length}
 
@@ -36,5 +37,12 @@ book-short a good =
 
 pub all-sizes : (sheet : List ℕ) (s : Sheet) (is-proper : readSheet sheet ≡ proper s) → sizes sheet s is-proper
 all-sizes sheet s is-proper =
-    let good : ProperArchitecture (s .architecture) = sheet-proper sheet s is-proper .architecture in
-    record { sheet-short = sheet-short sheet s is-proper; book-short = book-short (s .architecture) good; choice-short = λ c choice. choice-short (s .architecture) c good (choice .tables) }
+    let proper = sheet-proper sheet s is-proper in
+    let good = proper .architecture in
+    record {
+      sheet-short = sheet-short sheet s is-proper;
+      book-short = book-short (s .architecture) good;
+      choice-short = λ c choice. choice-short (s .architecture) c good (choice .tables);
+      annotation-short = vertices-few s proper;
+      path-short = omega (arith, vertices-few s proper);
+    }

@@ -3,7 +3,8 @@ use mathlib.Core.List.{List, [], _∷_}
 use Prim.Native.Nat.{ℕ}
 use Rattle.model.specs.declared.Refusal.{Refusal}
 use Rattle.model.specs.declared.Refusal.the-variants.{SheetTooShort, WrongMark, BadArchitecture, BadProcess, NoOwnerOrTooMany, BadAutomaton}
-use Rattle.model.specs.declared.Refusal.the-variants.{BadEdge, BookBufferTooShort, AnnotationBufferTooShort, BadBook, BadEntry, NoSuchProcess, BadTie, BadPrompt}
+use Rattle.model.specs.declared.Refusal.the-variants.{BadEdge, BookBufferTooShort, AnnotationBufferTooShort, BadBook, BadEntry, NoSuchProcess}
+use Rattle.model.specs.declared.Refusal.the-variants.{PathBufferTooShort, BadTie, BadPrompt}
 use Rattle.model.specs.declared.Finding.{Finding}
 use Rattle.model.specs.declared.Finding.the-variants.{Yes, No}
 use Rattle.model.specs.declared.Verdict.{Verdict}
@@ -24,6 +25,7 @@ number AnnotationBufferTooShort = 9
 number BadBook = 10
 number BadEntry = 11
 number NoSuchProcess = 12
+number PathBufferTooShort = 13
 number BadTie = 15
 number BadPrompt = 21
 

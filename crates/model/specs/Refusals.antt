@@ -1,11 +1,11 @@
--- 01, "Who causes which refusal", 8 to 12: what each call is refused for, in order. Each case has its own condition, and that none before it holds.
+-- 01, "Who causes which refusal", 8 to 13: what each call is refused for, in order. Each case has its own condition, and that none before it holds.
 use mathlib.Core.Path.{_≡_}
 use mathlib.Core.Logic.{_⊎_}
 use mathlib.Core.List.{List, List·Memᴰ}
-use Prim.Native.Nat.{ℕ, _≤_, _<_}
+use Prim.Native.Nat.{ℕ, _*_, _≤_, _<_}
 use lib.ListN.{length}
 use Rattle.model.specs.declared.Refusal.{Refusal}
-use Rattle.model.specs.declared.Refusal.the-variants.{BookBufferTooShort, AnnotationBufferTooShort, BadBook, BadEntry, NoSuchProcess}
+use Rattle.model.specs.declared.Refusal.the-variants.{BookBufferTooShort, AnnotationBufferTooShort, BadBook, BadEntry, NoSuchProcess, PathBufferTooShort}
 use Rattle.model.specs.Numbers.{number, sheetNumbers}
 use Rattle.model.specs.Sheet.{Architecture, Sheet}
 use Rattle.model.specs.Reading.{refused, proper, readSheet}
@@ -30,12 +30,21 @@ pub data FindRefused (sheet book ann : List ℕ) : Refusal → Type 0 where
   short-annotation : (s : Sheet) → readSheet sheet ≡ proper s → bookLength (s .architecture) ≤ length book → length ann < vertices s
       → FindRefused sheet book ann AnnotationBufferTooShort
 
--- judge and annotate: the sheet's faults, then 10, 11, then 9
+-- judge: the sheet's faults, then 10, 11, then 9
 pub data JudgeRefused (sheet book ann : List ℕ) : Refusal → Type 0 where
   by-sheet : (r : Refusal) → readSheet sheet ≡ refused r → JudgeRefused sheet book ann r
   by-book : (s : Sheet) (r : Refusal) → readSheet sheet ≡ proper s → BookRefused (s .architecture) book r → JudgeRefused sheet book ann r
   short-annotation : (s : Sheet) (c : List ℕ) → readSheet sheet ≡ proper s → Formed (s .architecture) book c → IsChoice (s .architecture) c → length ann < vertices s
       → JudgeRefused sheet book ann AnnotationBufferTooShort
+
+-- annotate: the sheet's faults, then 10, 11, then 13, then 9
+pub data AnnotateRefused (sheet book ann path : List ℕ) : Refusal → Type 0 where
+  by-sheet : (r : Refusal) → readSheet sheet ≡ refused r → AnnotateRefused sheet book ann path r
+  by-book : (s : Sheet) (r : Refusal) → readSheet sheet ≡ proper s → BookRefused (s .architecture) book r → AnnotateRefused sheet book ann path r
+  short-path : (s : Sheet) (c : List ℕ) → readSheet sheet ≡ proper s → Formed (s .architecture) book c → IsChoice (s .architecture) c → length path < 4 * vertices s
+      → AnnotateRefused sheet book ann path PathBufferTooShort
+  short-annotation : (s : Sheet) (c : List ℕ) → readSheet sheet ≡ proper s → Formed (s .architecture) book c → IsChoice (s .architecture) c → 4 * vertices s ≤ length path
+      → length ann < vertices s → AnnotateRefused sheet book ann path AnnotationBufferTooShort
 
 -- write: the sheet's faults, then 11, then 8
 pub data WriteRefused (sheet tables book : List ℕ) : Refusal → Type 0 where

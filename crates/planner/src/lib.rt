@@ -1,10 +1,12 @@
 // The public calls. Each takes whatever comes, and its contract says what it answers and what each lent buffer then holds.
 ghost use mathlib.Core.Path.{_≡_};
-ghost use Rattle.model.specs.Calls.{checkOf, findOf, writeOf, readOf, partOf, judgeOf, annotateOf};
+ghost use Rattle.model.specs.Calls.{checkOf, findOf, writeOf, readOf, partOf, judgeOf, annotateOf, AnnotatePath};
 ghost use Rattle.model.specs.Calls.{part as partIn};
 ghost use Rattle.book.specs.Answers.{afterRead, afterPart};
+ghost use Rattle.judging.specs.Answers.{afterPath};
 use book::Part;
 use book::TablesRead;
+use judging::Annotated;
 use model::Outcome;
 use model::Reply;
 use model::Verdict;
@@ -108,18 +110,20 @@ pub fn judge(sheet: &[u8], book: &[u8], annotation: &[u16]) -> Verdict
     }
 }
 
-// Annotates the book at the front of the buffer: yes, or no where a rejecting loop is reachable, and then nothing is written.
-pub fn annotate(sheet: &[u8], book: &[u8], annotation: &mut [u16]) -> Verdict
-    ensures { λ r. ⌜ r ≡ annotateOf (now (sheet .entry)) (now (book .entry)) (now (annotation .entry)) .answer ⌝ }
-    ensures { λ _. ⌜ now (annotation .exit) ≡ annotateOf (now (sheet .entry)) (now (book .entry)) (now (annotation .entry)) .annotation ⌝ }
+// Annotates the book: yes, with the annotation at the front of its buffer; or no where a rejecting loop is reachable, with a run that shows it at the
+// front of the path, each step as its direction and its edge, and how many steps its two parts have.
+pub fn annotate(sheet: &[u8], book: &[u8], annotation: &mut [u16], path: &mut [u8]) -> Annotated
+    ensures { λ r. ⌜ r .verdict ≡ annotateOf (now (sheet .entry)) (now (book .entry)) (now (annotation .entry)) (now (path .entry)) .answer ⌝ }
+    ensures { λ _. ⌜ now (annotation .exit) ≡ annotateOf (now (sheet .entry)) (now (book .entry)) (now (annotation .entry)) (now (path .entry)) .annotation ⌝ }
+    ensures { λ r. ⌜ AnnotatePath (now (sheet .entry)) (now (book .entry)) (now (annotation .entry)) (now (path .entry)) (afterPath r (now (path .exit))) ⌝ }
 {
     let reading = sheet::read(sheet);
     let answer = reading.answer;
     match answer {
-        Reply::Refused(refusal) => Verdict::Refused(refusal),
+        Reply::Refused(refusal) => judging::refused(refusal),
         Reply::Done => {
             let read = reading.sheet;
-            judging::annotate_for(read, book, annotation)
+            judging::annotate_for(read, book, annotation, path)
         }
     }
 }

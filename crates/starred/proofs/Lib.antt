@@ -1,3 +1,4 @@
 pub mod CaseA
 pub mod EveryRow
 pub mod EveryExample
+mod EveryRun

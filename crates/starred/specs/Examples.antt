@@ -321,21 +321,21 @@ pub record Pinned : Type 0 where
   -- at other automaton states it is not met
   pub unless-elsewhere : met (unless 0x01 0x00) 0 0x00 ≡ false
   -- waiting while not granted is waiting unless granted
-  pub waits-unless : annotateOf waiting bookA (buffer 32) ≡ annotated annotationA
+  pub waits-unless : annotateOf waiting bookA (buffer 32) (buffer 128) ≡ annotated annotationA
   -- case F with its edge as an EX: masks 00 are never met
   pub never-met : findOf (sheetE 1 1 1 (ex 0 0 0 0)) (buffer 8) (buffer 1) ≡ found bookE (1 ∷ [])
   -- from automaton state 2 at (1, 0, 1): the label before the step (05) meets the first edge only; both directions
   pub follows : successors watched tables 29 ≡ 22 ∷ 21 ∷ []
   -- each entry counts, the one at the start too: 4 with one rejecting state, which is T times the rejecting states
-  pub counts-each : annotateOf climb climbing (buffer 4) ≡ annotated (1 ∷ 2 ∷ 3 ∷ 4 ∷ [])
+  pub counts-each : annotateOf climb climbing (buffer 4) (buffer 16) ≡ annotated (1 ∷ 2 ∷ 3 ∷ 4 ∷ [])
   -- the start's entry is that of its automaton state: not that of state 0, nor of the state with the composed state's number
-  pub start-counts : annotateOf (ar 1 1 1 ++ pr 0 0 1 ++ au 3 2 4 ++ en) bookE (buffer 6) ≡ annotated (replicate 5 65535 ++ (1 ∷ []))
+  pub start-counts : annotateOf (ar 1 1 1 ++ pr 0 0 1 ++ au 3 2 4 ++ en) bookE (buffer 6) (buffer 24) ≡ annotated (replicate 5 65535 ++ (1 ∷ []))
   -- a rejecting state only on the way to a loop is no fault
-  pub on-the-way : annotateOf (sheetE 1 2 1 (edge 0 1 ++ edge 1 1)) bookE (buffer 2) ≡ annotated (1 ∷ 1 ∷ [])
+  pub on-the-way : annotateOf (sheetE 1 2 1 (edge 0 1 ++ edge 1 1)) bookE (buffer 2) (buffer 8) ≡ annotated (1 ∷ 1 ∷ [])
   -- a loop that can't be reached is no fault; its vertex is blank, and the rest of the buffer is left
-  pub unreached : annotateOf (sheetE 1 2 2 (edge 1 1)) bookE (buffer 3) ≡ annotated (0 ∷ 65535 ∷ 7 ∷ [])
+  pub unreached : annotateOf (sheetE 1 2 2 (edge 1 1)) bookE (buffer 3) (buffer 8) ≡ annotated (0 ∷ 65535 ∷ 7 ∷ [])
   -- a loop of two steps, rejecting at one of them
-  pub longer-loop : annotateOf (sheetE 1 2 2 (edge 0 1 ++ edge 1 0)) bookE (buffer 2) ≡ looped 2
+  pub longer-loop : annotateOf (sheetE 1 2 2 (edge 0 1 ++ edge 1 0)) bookE (buffer 2) (buffer 8) ≡ looped 2
   -- 65534 is a number
   pub greatest-number : judgeOf caseE bookE (65534 ∷ []) ≡ Verdict.Found Yes
   -- the initial vertex isn't blank
@@ -441,12 +441,12 @@ pub record Pinned : Type 0 where
   pub next-at-bound : verdictCode (judgeOf caseE (tb 0 0 1 ++ en) []) ≡ 11
   pub entries-before-room : verdictCode (judgeOf caseE bookE []) ≡ 9
   -- a broken tie: 11 in every call, before 9 and before 8, and behind 12 and 10
-  pub broken-annotated : verdictCode (annotateOf caseS broken [] .answer) ≡ 11
+  pub broken-annotated : verdictCode (annotateOf caseS broken [] [] .answer) ≡ 11
   pub broken-judged : verdictCode (judgeOf caseS broken []) ≡ 11
   pub broken-read : replyCode (readOf caseS broken .answer) ≡ 11
   pub broken-part : replyCode (partOf caseS broken 1 .answer) ≡ 11
   pub broken-written : replyCode (writeOf caseS (0x01 ∷ 0 ∷ 0x08 ∷ 0 ∷ []) [] .answer) ≡ 11
-  pub broken-malformed : verdictCode (annotateOf caseS malformed [] .answer) ≡ 10
+  pub broken-malformed : verdictCode (annotateOf caseS malformed [] [] .answer) ≡ 10
   pub broken-part-process : replyCode (partOf caseS malformed 2 .answer) ≡ 12
   -- what is behind the entries breaks no tie
   pub rest-not-tied : writeOf caseS (0x01 ∷ 0 ∷ 0x02 ∷ 0 ∷ 1 ∷ 9 ∷ []) (buffer 15) ≡ record { answer = Reply.Done; book = bookS 0x01 0x02 ++ buffer 1 }

@@ -20,8 +20,8 @@ buffer n = replicate n 7
 pub data Row : Type 0 where
   find : (sheet : List ℕ) (book annotation : ℕ) → AfterFind → Row
   judge : (sheet book annotation : List ℕ) → Verdict → Row
-  annotate : (sheet book : List ℕ) (annotation : ℕ) → Verdict → Row
-  annotate-leaves : (sheet book : List ℕ) (annotation : ℕ) → AfterAnnotate → Row
+  annotate : (sheet book : List ℕ) (annotation path : ℕ) → Verdict → Row
+  annotate-leaves : (sheet book : List ℕ) (annotation path : ℕ) → AfterAnnotate → Row
   check : (sheet : List ℕ) → Reply → Row
   refuses : (sheet : List ℕ) → ℕ → Row
   refuses-behind : (sheet : List ℕ) → ℕ → Row
@@ -31,8 +31,8 @@ pub data Row : Type 0 where
 abbrev pub Holds : Row → Type 0
 Holds (find sheet book annotation after) = findOf sheet (buffer book) (buffer annotation) ≡ after
 Holds (judge sheet book annotation verdict) = judgeOf sheet book annotation ≡ verdict
-Holds (annotate sheet book annotation verdict) = annotateOf sheet book (buffer annotation) .answer ≡ verdict
-Holds (annotate-leaves sheet book annotation after) = annotateOf sheet book (buffer annotation) ≡ after
+Holds (annotate sheet book annotation path verdict) = annotateOf sheet book (buffer annotation) (buffer path) .answer ≡ verdict
+Holds (annotate-leaves sheet book annotation path after) = annotateOf sheet book (buffer annotation) (buffer path) ≡ after
 Holds (check sheet reply) = checkOf sheet ≡ reply
 Holds (refuses sheet n) = replyCode (checkOf sheet) ≡ n
 Holds (refuses-behind sheet n) = (x : ℕ) → replyCode (checkOf (sheet ++ (x ∷ []))) ≡ n
@@ -57,7 +57,7 @@ found book annotation = record { answer = Outcome.Tables; book = book; annotatio
 abbrev pub annotated : List ℕ → AfterAnnotate
 annotated annotation = record { answer = Verdict.Found Yes; annotation = annotation }
 
--- `loop`, and a buffer of this length as it was
+-- `loop`, and an annotation buffer of this length as it was
 abbrev pub looped : ℕ → AfterAnnotate
 looped annotation = record { answer = Verdict.Found No; annotation = buffer annotation }
 
@@ -83,7 +83,7 @@ starred =
     ∷ find (sheetC 2 1) 23 32 (none 23 32)
     ∷ find (sheetC 1 2) 23 32 (none 23 32)
     -- D: bounds 2,2: no rejecting loop
-    ∷ annotate (sheetC 2 2) bookD 64 (Verdict.Found Yes)
+    ∷ annotate (sheetC 2 2) bookD 64 256 (Verdict.Found Yes)
     -- E: the least sheet that there is. The buffers are longer by one again
     ∷ find (sheetE 1 1 0 []) 9 2 (found (bookE ++ buffer 1) (0 ∷ buffer 1))
     -- F: the one state rejects and loops, also with 4 states of the process
@@ -92,11 +92,11 @@ starred =
     -- G: E with state 0 rejecting: annotation 1, since the start's entry counts
     ∷ find (sheetE 1 1 1 []) 8 1 (found bookE (1 ∷ []))
     -- H: E with states 0, 1 and an edge 0 to 1. Only 0 rejecting: annotated 1, 1; 0, 0 is valid too
-    ∷ annotate-leaves (sheetE 1 2 1 (edge 0 1)) bookE 2 (annotated (1 ∷ 1 ∷ []))
+    ∷ annotate-leaves (sheetE 1 2 1 (edge 0 1)) bookE 2 8 (annotated (1 ∷ 1 ∷ []))
     ∷ judge (sheetE 1 2 1 (edge 0 1)) bookE (1 ∷ 1 ∷ []) (Verdict.Found Yes)
     ∷ judge (sheetE 1 2 1 (edge 0 1)) bookE (0 ∷ 0 ∷ []) (Verdict.Found Yes)
     -- H, where the state entered rejects: the number must rise
-    ∷ annotate-leaves (sheetE 1 2 2 (edge 0 1)) bookE 2 (annotated (0 ∷ 1 ∷ []))
+    ∷ annotate-leaves (sheetE 1 2 2 (edge 0 1)) bookE 2 8 (annotated (0 ∷ 1 ∷ []))
     ∷ judge (sheetE 1 2 2 (edge 0 1)) bookE (0 ∷ 0 ∷ []) (Verdict.Found No)
     ∷ judge (sheetE 1 2 2 (edge 0 1)) bookE (0 ∷ 1 ∷ []) (Verdict.Found Yes)
     -- I: an empty sheet; the byte 41 alone; A and one more byte
@@ -107,9 +107,9 @@ starred =
     ∷ find (sheetS tieS []) 14 2 (found (bookS 0x05 0x0A) (0 ∷ blank ∷ []))
     ∷ find (sheetS [] []) 14 2 (found (bookS 0x01 0x08) (0 ∷ blank ∷ []))
     ∷ find (sheetS tieS edgeS) 14 2 (none 14 2)
-    ∷ annotate-leaves (sheetS tieS []) (bookS 0x01 0x02) 2 (looped 2)
+    ∷ annotate-leaves (sheetS tieS []) (bookS 0x01 0x02) 2 8 (looped 2)
     -- P: found; its tables loop where process 1 reads variable 1 a step late
     ∷ find (sheetP 0x02) 30 16 (found bookP annotationP)
-    ∷ annotate-leaves (sheetP 0x02) bookP 16 (annotated annotationP)
-    ∷ annotate-leaves (sheetP 0x00) bookP 16 (looped 16)
+    ∷ annotate-leaves (sheetP 0x02) bookP 16 64 (annotated annotationP)
+    ∷ annotate-leaves (sheetP 0x00) bookP 16 64 (looped 16)
     ∷ []

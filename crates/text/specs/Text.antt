@@ -60,9 +60,6 @@ textOf a c annotation = filled (ascii "tables #\n") (rowCount (a .processes) ∷
 abbrev pub noneText : List ℕ
 noneText = ascii "none\n"
 
-abbrev pub loopText : List ℕ
-loopText = ascii "loop\n"
-
 abbrev pub yesText : List ℕ
 yesText = ascii "yes\n"
 

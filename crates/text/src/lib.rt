@@ -33,8 +33,8 @@ pub fn row_of(a: Architecture, i: usize, x: ProcessState, tables: &[u8]) -> &[u8
     &tables[from..end]
 }
 
-// A space and a state of the process.
-fn put_field(text: &mut [u8], at: usize, x: ProcessState) -> usize
+// A space and a state of a process.
+pub fn put_field(text: &mut [u8], at: usize, x: ProcessState) -> usize
     requires { ⌜ at + length (spec.field (x .0)) ≤ length (now text) ⌝ }
     ensures { λ r. ⌜ Appends (now (text .entry)) at (spec.field (x .0)) r (now (text .exit)) ⌝ }
 {

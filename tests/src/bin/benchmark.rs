@@ -1,6 +1,7 @@
 //! Times annotating on the largest run graphs, by the library and by the
-//! independent run graph; then finding, by the library and by plain enumeration
-//! made for speed. Asserts that they agree, and nothing about time.
+//! independent run graph with its plain search for a run that breaks the sheet;
+//! then finding, by the library and by plain enumeration made for speed. Asserts
+//! that they agree and that such runs replay, and nothing about time.
 
 use std::hint::black_box;
 use std::time::{Duration, Instant};
@@ -11,14 +12,17 @@ use soclethyme_tests::choices::{choice_count, FoundChoice};
 use soclethyme_tests::fast_enumeration;
 use soclethyme_tests::ffi::{self, finding_number, NEGATIVE, POSITIVE};
 use soclethyme_tests::joint_counter::JointCounter;
+use soclethyme_tests::lasso::{least_path, Lasso};
+use soclethyme_tests::looping_books::{adders, longest_run, PassedOnce};
 use soclethyme_tests::many_choices::{opening, prompt_relay, relay, three_clients, tied_openings};
 use soclethyme_tests::proper_sheet::{ProperSheet, SheetAndBook};
 use soclethyme_tests::random_books;
 use soclethyme_tests::random_sheets;
 use soclethyme_tests::rejecting_loops;
 use soclethyme_tests::rng::Rng;
-use soclethyme_tests::run_graph::{self, BLANK};
+use soclethyme_tests::run_graph::{self, RunGraph};
 use soclethyme_tests::sheet::{Process, Sheet, MOST_EDGES, MOST_VERTICES};
+use soclethyme_tests::transition_system::TransitionSystem;
 
 const SEED: u64 = 0x5EED_0004;
 
@@ -55,11 +59,14 @@ fn repeat_edges(rng: &mut Rng, sheet: &mut Sheet) {
 /// Whether a rejecting loop is reachable; none if there is no loop and few
 /// vertices are reached.
 fn loops(input: &SheetAndBook) -> Option<bool> {
-    let mut buffer = vec![0; MOST_VERTICES];
-    let annotated = run_graph::annotate(&input.proper.bytes, &input.book, &mut buffer);
-    let loops = annotated == Ok(false);
-    let reached = buffer.iter().filter(|number| **number != BLANK);
-    (loops || reached.count() >= MOST_VERTICES / 2).then_some(loops)
+    let graph = RunGraph::of(&system_of(input));
+    let loops = graph.annotation().is_none();
+    (loops || graph.reached() >= MOST_VERTICES / 2).then_some(loops)
+}
+
+fn system_of(input: &SheetAndBook) -> TransitionSystem {
+    let system = TransitionSystem::read(&input.proper.bytes, &input.book);
+    system.expect("a proper sheet and book")
 }
 
 /// Three that loop and three that do not.
@@ -100,6 +107,32 @@ fn counter_books() -> Vec<NamedBook> {
     all
 }
 
+/// Where a rejecting loop is close to the start: with no other rejecting vertices,
+/// and with 2,048 that are on no cycle, reached behind it or ahead of it, from each
+/// of which 1,792 vertices or more are reached. Then the run with the most steps.
+fn looping_books() -> Vec<NamedBook> {
+    let mut all = Vec::new();
+    for (steps, dense) in [("few steps", false), ("many steps", true)] {
+        let named = [
+            ("loop, no other rejecting", PassedOnce::None),
+            ("loop, rejecting behind", PassedOnce::Behind),
+            ("loop, rejecting ahead", PassedOnce::Ahead),
+        ];
+        all.extend(named.map(|(name, passed)| NamedBook {
+            name: format!("{name}, {steps}"),
+            input: adders(passed, dense),
+        }));
+    }
+    all.extend([false, true].map(|falling| NamedBook {
+        name: format!(
+            "longest run, {}",
+            if falling { "falling" } else { "rising" }
+        ),
+        input: longest_run(falling),
+    }));
+    all
+}
+
 /// The inputs of two processes, which set 4 and 5, and 6 and 7.
 const INPUTS: [[u8; 2]; 4] = [[0x00, 0x00], [0x80, 0x01], [0x81, 0x22], [0xC5, 0x3A]];
 
@@ -132,13 +165,30 @@ fn reading_books() -> Vec<NamedBook> {
     named.into()
 }
 
-/// Microseconds per call, the buffer kept as the call before left it.
-fn time(buffer: &mut [u16], mut call: impl FnMut(&mut [u16]) -> u32) -> f64 {
-    black_box(call(buffer));
+/// What annotating is lent.
+struct Buffers {
+    annotation: Vec<u16>,
+    path: Vec<u8>,
+    lengths: [u32; 2],
+}
+
+impl Buffers {
+    fn new() -> Self {
+        Buffers {
+            annotation: vec![0; MOST_VERTICES],
+            path: vec![0; least_path(MOST_VERTICES)],
+            lengths: [0; 2],
+        }
+    }
+}
+
+/// Microseconds per call, the buffers kept as the call before left them.
+fn time(lent: &mut Buffers, call: impl Fn(&mut Buffers) -> u32) -> f64 {
+    black_box(call(lent));
     let start = Instant::now();
     let mut calls = 0;
     while calls < 3 || start.elapsed() < SPAN {
-        black_box(call(black_box(&mut *buffer)));
+        black_box(call(black_box(&mut *lent)));
         calls += 1;
     }
     start.elapsed().as_secs_f64() * 1e6 / f64::from(calls)
@@ -149,22 +199,49 @@ fn print_times(name: &str, size: u64, answer: u32, library: f64, other: f64) {
     println!("{name:<42} {size:>8} {answer:>6} {library:>14.1} {other:>14.1} {ratio:>8.5}");
 }
 
-fn measure_annotate(named: &NamedBook) {
-    let (sheet, book) = (&named.input.proper.bytes, &named.input.book);
-    let by_library = |buffer: &mut [u16]| ffi::annotate(sheet, book, buffer);
-    let by_graph = |buffer: &mut [u16]| finding_number(run_graph::annotate(sheet, book, buffer));
+fn annotate_by_library(input: &SheetAndBook, lent: &mut Buffers) -> u32 {
+    ffi::annotate(
+        &input.proper.bytes,
+        &input.book,
+        &mut lent.annotation,
+        &mut lent.path,
+        &mut lent.lengths,
+    )
+}
 
-    let mut library_buffer = vec![0; MOST_VERTICES];
-    let mut graph_buffer = vec![0; MOST_VERTICES];
-    let answer = by_library(&mut library_buffer);
-    assert_eq!(answer, by_graph(&mut graph_buffer));
-    assert_eq!(library_buffer, graph_buffer);
+fn annotate_by_graph(input: &SheetAndBook, lent: &mut Buffers) -> u32 {
+    finding_number(run_graph::annotate(
+        &input.proper.bytes,
+        &input.book,
+        &mut lent.annotation,
+        &mut lent.path,
+        &mut lent.lengths,
+    ))
+}
+
+/// The annotation is judged valid, or the run breaks the sheet.
+fn assert_passes(input: &SheetAndBook, answer: u32, lent: &Buffers) {
     if answer == POSITIVE {
-        assert_eq!(ffi::judge(sheet, book, &library_buffer), POSITIVE);
+        let judged = ffi::judge(&input.proper.bytes, &input.book, &lent.annotation);
+        assert_eq!(judged, POSITIVE);
+    } else {
+        let run = Lasso::replayed(&system_of(input), &lent.path, lent.lengths);
+        assert!(run.is_ok(), "{run:?}");
+    }
+}
+
+fn measure_annotate(named: &NamedBook) {
+    let input = &named.input;
+    let (mut by_library, mut by_graph) = (Buffers::new(), Buffers::new());
+    let answer = annotate_by_library(input, &mut by_library);
+    assert_eq!(answer, annotate_by_graph(input, &mut by_graph));
+    assert_eq!(by_library.annotation, by_graph.annotation);
+    for lent in [&by_library, &by_graph] {
+        assert_passes(input, answer, lent);
     }
 
-    let library = time(&mut library_buffer, by_library);
-    let graph = time(&mut graph_buffer, by_graph);
+    let library = time(&mut by_library, |lent| annotate_by_library(input, lent));
+    let graph = time(&mut by_graph, |lent| annotate_by_graph(input, lent));
     print_times(&named.name, MOST_VERTICES as u64, answer, library, graph);
 }
 
@@ -224,9 +301,13 @@ fn print_heading(call: &str, size: &str, other: &str) {
 
 fn main() {
     print_heading("annotate", "vertices", "independent us");
-    for books in [random_books(), counter_books(), reading_books()] {
-        books.iter().for_each(measure_annotate);
-    }
+    let books = [
+        random_books(),
+        counter_books(),
+        reading_books(),
+        looping_books(),
+    ];
+    books.iter().flatten().for_each(measure_annotate);
     println!();
     print_heading("find", "choices", "enumeration us");
     for (name, sheet) in sheets_to_search() {

@@ -5,7 +5,7 @@ use Rattle.model.specs.declared.Finding.{Finding}
 use Rattle.model.specs.declared.Verdict.{Verdict}
 use Rattle.model.specs.Calls.{AfterAnnotate}
 use Rattle.annotate.specs.Printed.{left}
-use Rattle.annotate.proofs.AnnotatedBuffer.{says-refused, says-loop, says-greatest}
+use Rattle.annotate.proofs.AnnotatedBuffer.{says-refused, says-greatest}
 use Rattle.annotate.proofs.verdict_text.Statement.{statement}
 use Rattle.annotate.proofs.verdict_text.Tie as tie
 
@@ -29,17 +29,17 @@ enum-told c = search needs
 greatest-text-requires : tie.Need-greatest-text-requires
 greatest-text-requires c κs = search needs
 
--- `Finding::No => text::answer_text(text, b"loop\n")`
+-- `Finding::No => loop_text(text, sheet, book, done, path)`
 enum-told-2 : tie.Need-enum-told-2
 enum-told-2 c = search needs
 
--- `Finding::No => text::answer_text(text, b"loop\n")`
-slice-aggregate-answer-text : tie.Need-slice-aggregate-answer-text
-slice-aggregate-answer-text c = search needs
-
--- `Finding::No => text::answer_text(text, b"loop\n")`
-answer-text-requires : tie.Need-answer-text-requires
-answer-text-requires c κs = search needs
+-- `Finding::No => loop_text(text, sheet, book, done, path)`
+loop-text-requires : tie.Need-loop-text-requires
+loop-text-requires c κs =
+    let arm = c .before in
+    let b = arm .before .before .before .before .before .before .before .before .before .before in
+    let no = arm .before .before .before .verdict2 .given .1 ∙ ap (λ (f : Finding). Verdict.Found f) (arm .enum-told2 .given .1) in
+    (b .pre .0, (ap (λ (x : AfterAnnotate). x .answer) (b .pre .1 .0) ∙ no, b .pre .1 .1))
 
 -- `match verdict`
 same-length : tie.Need-same-length
@@ -48,9 +48,9 @@ same-length c = search needs
 -- `match verdict`
 returns : tie.Need-returns
 returns c =
-    let b = c .before .before .before .before .before .before .before .before .before .before .before in
+    let b = c .before .before .before .before .before .before .before .before .before .before .before .before in
     let o = c .before .before .before .before .before .verdict .given in
-    rw (says-refused (b .args .sheet .now) (b .args .book .now) (o .0 .0) (ap (λ (x : AfterAnnotate). x .answer) (b .pre .1) ∙ o .1)) (c .before .before .refused-text .ensures)
+    rw (says-refused (b .args .sheet .now) (b .args .book .now) (o .0 .0) _ (ap (λ (x : AfterAnnotate). x .answer) (b .pre .1 .0) ∙ o .1)) (c .before .before .refused-text .ensures)
 
 -- `match verdict`
 same-length-2 : tie.Need-same-length-2
@@ -60,10 +60,10 @@ same-length-2 c = search needs
 returns-2 : tie.Need-returns-2
 returns-2 c =
     let arm = c .before .before .before .before in
-    let b = arm .before .before .before .before .before .before .before .before .before in
+    let b = arm .before .before .before .before .before .before .before .before .before .before in
     let a = b .args in
     let yes = arm .before .before .before .verdict2 .given .1 ∙ ap (λ (f : Finding). Verdict.Found f) (arm .enum-told .given .1) in
-    rw (says-greatest (a .sheet .now) (a .book .now) (a .annotation .now) (b .pre .1 ∙ ap (λ (v : Verdict). left v (a .annotation .now)) yes)) (c .before .before .greatest-text .ensures)
+    rw (says-greatest (a .sheet .now) (a .book .now) (a .annotation .now) _ (b .pre .1 .0 ∙ ap (λ (v : Verdict). left v (a .annotation .now)) yes)) (c .before .before .greatest-text .ensures)
 
 -- `match verdict`
 same-length-3 : tie.Need-same-length-3
@@ -71,11 +71,7 @@ same-length-3 c = search needs
 
 -- `match verdict`
 returns-3 : tie.Need-returns-3
-returns-3 c =
-    let arm = c .before .before .before .before .before in
-    let b = arm .before .before .before .before .before .before .before .before .before in
-    let no = arm .before .before .before .verdict2 .given .1 ∙ ap (λ (f : Finding). Verdict.Found f) (arm .enum-told2 .given .1) in
-    rw (says-loop (b .args .sheet .now) (b .args .book .now) (ap (λ (x : AfterAnnotate). x .answer) (b .pre .1) ∙ no)) (c .before .before .answer-text .ensures)
+returns-3 c = search needs
 
 pub verdict-text-spec : {M : Type 1} → statement M
 verdict-text-spec =
@@ -87,8 +83,7 @@ verdict-text-spec =
     enum-told
     greatest-text-requires
     enum-told-2
-    slice-aggregate-answer-text
-    answer-text-requires
+    loop-text-requires
     same-length
     returns
     same-length-2

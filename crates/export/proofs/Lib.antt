@@ -1,0 +1,2 @@
+-- What the proof of a function uses.
+mod RunLaws
