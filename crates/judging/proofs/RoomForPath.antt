@@ -41,7 +41,10 @@ module _ (s : Sheet) (c ann : List ℕ) where
   unfolding refuse_when_else_ annotated annotatedBy
   looped true loop l e = let z : _≡_ {A = ℕ} 0 1 = cc in absurd (omega arith)
   looped false true l e = (refl, l)
-  looped false false l e = let q : annotatedBy x false ann .answer ≡ Verdict.Found No = ap (λ (b : Bool). annotatedBy x b ann .answer) (sym l) ∙ e in let z : _≡_ {A = ℕ} 0 1 = cc in absurd (omega arith)
+  looped false false l e =
+      let q : annotatedBy x false ann .answer ≡ Verdict.Found No = ap (λ (b : Bool). annotatedBy x b ann .answer) (sym l) ∙ e in
+      let z : _≡_ {A = ℕ} 0 1 = cc in
+      absurd (omega arith)
 
   module _ (said : annotated (roomFor s c ann) ann .answer ≡ Verdict.Found No) where
     both : (annotationShort s ann ≡ false) × (loops s c ≡ true)

@@ -132,7 +132,8 @@ fn write_run(sheet: Sheet, tables: &[u8], path: &mut [u8]) -> Annotated
     requires { ⌜ RejectingLoop (sheetOf sheet) (chosen (architectureOf (sheet .architecture)) (now tables)) ⌝ }
     requires { ⌜ 4 * vertices (sheetOf sheet) ≤ length (now path) ⌝ }
     ensures { λ r. ⌜ r .verdict ≡ Answered.Found No ⌝ }
-    ensures { λ r. ⌜ WritesLasso (record { sheet = sheetOf sheet; choice = chosen (architectureOf (sheet .architecture)) (now (tables .entry)) }) (now (path .entry)) (afterPath r (now (path .exit))) ⌝ }
+    ensures { λ r. ⌜ WritesLasso (record { sheet = sheetOf sheet; choice = chosen (architectureOf (sheet .architecture)) (now (tables .entry)) }) (now (path .entry))
+        (afterPath r (now (path .exit))) ⌝ }
 {
     let lengths = lasso::put_lasso(path, sheet, tables);
     Annotated {
@@ -153,10 +154,12 @@ fn annotate_or_break(
     requires { ⌜ IsTables (architectureOf (sheet .architecture)) (chosen (architectureOf (sheet .architecture)) (now tables)) ⌝ }
     ensures { λ r.
         ⌜ r .verdict
-        ≡ annotated (roomsFor (sheetOf sheet) (chosen (architectureOf (sheet .architecture)) (now (tables .entry))) (now (annotation .entry)) (now (path .entry))) (now (annotation .entry)) .answer ⌝ }
+        ≡ annotated (roomsFor (sheetOf sheet) (chosen (architectureOf (sheet .architecture)) (now (tables .entry))) (now (annotation .entry)) (now (path .entry)))
+        (now (annotation .entry)) .answer ⌝ }
     ensures { λ _.
         ⌜ now (annotation .exit)
-        ≡ annotated (roomsFor (sheetOf sheet) (chosen (architectureOf (sheet .architecture)) (now (tables .entry))) (now (annotation .entry)) (now (path .entry))) (now (annotation .entry)) .annotation ⌝ }
+        ≡ annotated (roomsFor (sheetOf sheet) (chosen (architectureOf (sheet .architecture)) (now (tables .entry))) (now (annotation .entry)) (now (path .entry)))
+        (now (annotation .entry)) .annotation ⌝ }
     ensures { λ r. ⌜ PathFor (roomsFor (sheetOf sheet) (chosen (architectureOf (sheet .architecture)) (now (tables .entry))) (now (annotation .entry)) (now (path .entry))) (now (path .entry))
         (afterPath r (now (path .exit))) ⌝ }
 {

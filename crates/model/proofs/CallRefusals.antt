@@ -22,7 +22,8 @@ use Rattle.model.specs.RunGraph.{vertices}
 use Rattle.model.specs.Computed.{loops, firstChoice}
 use Rattle.model.specs.Book.{bookLength, bookOf, entryFault, readBook}
 use Rattle.model.specs.Calls.{annotationShort, pathShort, bookShort, reply, checkOf, roomToFind, findSheet, findChoice, findIn, findOf, Chosen, roomFor, bookFor, bookAndRoom, judged, judgeOf}
-use Rattle.model.specs.Calls.{roomsFor, bookAndRoomsFor, bookAndRooms, annotatedBy, annotated, annotateOf, writtenFor, written, wrote, writeOf, gave, readOf, noProcess, partFor, partArchitecture, cut, partOf}
+use Rattle.model.specs.Calls.{roomsFor, bookAndRoomsFor, bookAndRooms, annotatedBy, annotated, annotateOf}
+use Rattle.model.specs.Calls.{writtenFor, written, wrote, writeOf, gave, readOf, noProcess, partFor, partArchitecture, cut, partOf}
 use Rattle.model.specs.Refusals.{Formed, BookRefused, not-formed, no-choice, Among}
 use Rattle.model.specs.Refusals.{FindRefused, JudgeRefused, AnnotateRefused, WriteRefused, ReadRefused, PartRefused}
 use Rattle.model.proofs.Refusing.{stop, go, refused≢proper, same-refused, refused-when, refused-then, then-refused, then-read}

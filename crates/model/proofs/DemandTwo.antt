@@ -194,7 +194,8 @@ module _ (sheet book ann path : List ℕ) where
     λ w. ap (λ (a : AfterAnnotate). a .answer) (annotate-is w) ∙ looped ann _ (loops (w .read) (w .choice)) (right w .1 (w .holds .1)),
   )
 
-  pub annotate-kept : (w : Weighed sheet book ann (WithPath path Keeps)) → annotateOf sheet book ann path ≡ record { answer = Verdict.Found Yes; annotation = front (annotation (w .read) (w .choice)) ann }
+  pub annotate-kept : (w : Weighed sheet book ann (WithPath path Keeps))
+      → annotateOf sheet book ann path ≡ record { answer = Verdict.Found Yes; annotation = front (annotation (w .read) (w .choice)) ann }
   annotate-kept w = annotate-is w ∙ kept ann _ (loops (w .read) (w .choice)) (not-true-false (loops (w .read) (w .choice)) (λ q. w .holds .1 (right w .0 q)))
 
   says-annotated : (annotateOf sheet book ann path .answer ≡ Verdict.Found Yes) ↔ Weighed sheet book ann (WithPath path Keeps)

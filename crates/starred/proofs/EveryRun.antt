@@ -27,13 +27,22 @@ forced-lasso = record {
   short = omega arith;
 }
 
+-- round in F by direction 1
+round : Takes (turning 1) still 1 (by 1 0) 1
+unfolding vertex automatonState composedState met label step
+round = record { along = _; numbered = refl; is-met = refl; possible = omega arith; leads = refl }
+
 turning-lasso : IsLasso (turning 1) still [] (by 1 0 ∷ [])
-unfolding vertex automatonState composedState vertices start rejects met label step
-turning-lasso = record {
+unfolding vertices start rejects
+turning-lasso = record { at = 1; rejecting = refl; reached = arrived; back = taking round arrived; turns = omega arith; short = omega arith }
+
+longest-lasso : IsLasso (turning 1) still (by 1 0 ∷ by 1 0 ∷ []) (by 1 0 ∷ by 1 0 ∷ [])
+unfolding vertices start rejects
+longest-lasso = record {
   at = 1;
   rejecting = refl;
-  reached = arrived;
-  back = taking {u = 1} {k = by 1 0} (record { along = _; numbered = refl; is-met = refl; possible = omega arith; leads = refl }) arrived;
+  reached = taking round (taking round arrived);
+  back = taking round (taking round arrived);
   turns = omega arith;
   short = omega arith;
 }
@@ -63,6 +72,7 @@ every-run = record {
   edge-elsewhere = λ w t. true≢false (sym (is-met (asks 1 2) (by 1 2) refl t));
   no-such-edge = λ w t. let e = t .numbered in let z : _≡_ {A = ℕ} 0 1 = cc in omega arith;
   impossible = λ w t. omega (arith, t .possible);
+  as-long-as-may-be = longest-lasso;
   no-turn = λ l. omega (arith, l .turns);
   not-rejecting = λ ks l. true≢false (sym (l .rejecting) ∙ empty (l .at / T (turning 0 .architecture)));
   too-long = λ l. omega (arith, l .short);

@@ -75,6 +75,8 @@ pub record RunsPinned : Type 0 where
   pub edge-elsewhere : (w : ℕ) → ¬ Takes forced still 1 (by 1 2) w
   pub no-such-edge : (w : ℕ) → ¬ Takes forced still 0 (by 1 4) w
   pub impossible : (w : ℕ) → ¬ Takes forced still 0 (by 2 1) w
+  -- a lasso may go round twice, and have twice as many steps as vertices
+  pub as-long-as-may-be : IsLasso (turning 1) still (by 1 0 ∷ by 1 0 ∷ []) (by 1 0 ∷ by 1 0 ∷ [])
   -- no lasso: one that does not turn, one through a vertex that does not reject, one of more than twice as many steps as vertices
   pub no-turn : ¬ IsLasso (turning 1) still [] []
   pub not-rejecting : (ks : List Taken) → ¬ IsLasso (turning 0) still [] ks

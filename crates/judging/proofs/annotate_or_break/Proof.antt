@@ -98,7 +98,8 @@ returns-2 : tie.Need-returns-2
 returns-2 c =
     let k = c .before .before .before .before .before .before in
     let a = b k .args in
-    let d = due k (due-left (S (b k)) (C (b k)) (a .annotation .now) (a .path .now) (Verdict.Refused _) (said k _ (c .before .before .verdict .given .1)) (k .annotate-tables .ensures .1) (refused≢loop _) (c .refused2 .ensures)) in
+    let e = said k _ (c .before .before .verdict .given .1) in
+    let d = due k (due-left (S (b k)) (C (b k)) (a .annotation .now) (a .path .now) (Verdict.Refused _) e (k .annotate-tables .ensures .1) (refused≢loop _) (c .refused2 .ensures)) in
     (d .answer, (d .annotation, d .run))
 
 same-length-2 : tie.Need-same-length-2
