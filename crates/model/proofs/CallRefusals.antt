@@ -1,30 +1,28 @@
 -- Each call is refused exactly as its definition of refusals says: a test that passed, and none before it.
-use mathlib.Core.Path.{_≡_, refl, sym, ap, _∙_, subst}
+use mathlib.Core.Path.{_≡_, sym, ap, _∙_, subst}
 use mathlib.Core.Bool.{Bool, true, false, true≢false}
 use mathlib.Core.Logic.{_⊎_, inl, inr, _↔_, ⊎-elim}
-use mathlib.Core.List.{List, [], _∷_, List·Memᴰ, List·Memᴰ·head, List·Memᴰ·tail}
+use mathlib.Core.List.{List}
 use mathlib.Core.Option.{Option, none, some}
-use Prim.Native.Nat.{ℕ, _*_, _≤_, _<_}
+use Prim.Native.Nat.{ℕ, _≤_, _<_}
 use native.Mathlib.Omega.{arith}
 use lib.ListN.{length}
 use borrow.Author.Tests.{ltb-true, ltb-false, lt-ltb, le-ltb, leb-true, leb-false, le-leb, lt-leb}
 use Rattle.model.specs.declared.Refusal.{Refusal}
-use Rattle.model.specs.declared.Refusal.the-variants.{BookBufferTooShort, AnnotationBufferTooShort, BadBook, BadEntry, NoSuchProcess, PathBufferTooShort}
-use Rattle.model.specs.declared.Finding.{Finding}
+use Rattle.model.specs.declared.Refusal.the-variants.{BookBufferTooShort, AnnotationBufferTooShort, BadEntry, NoSuchProcess, PathBufferTooShort}
 use Rattle.model.specs.declared.Verdict.{Verdict}
 use Rattle.model.specs.declared.Reply.{Reply}
 use Rattle.model.specs.declared.Outcome.{Outcome}
-use Rattle.model.specs.Numbers.{number}
 use Rattle.model.specs.Sheet.{Architecture, Sheet}
 use Rattle.model.specs.Reading.{Reading, refused, proper, refuse_when_else_, _then_, readSheet}
 use Rattle.model.specs.Choice.{IsChoice, chosen}
 use Rattle.model.specs.RunGraph.{vertices}
 use Rattle.model.specs.Computed.{loops, firstChoice}
 use Rattle.model.specs.Book.{bookLength, bookOf, entryFault, readBook}
-use Rattle.model.specs.Calls.{annotationShort, pathShort, bookShort, reply, checkOf, roomToFind, findSheet, findChoice, findIn, findOf, Chosen, roomFor, bookFor, bookAndRoom, judged, judgeOf}
+use Rattle.model.specs.Calls.{annotationShort, pathShort, bookShort, reply, roomToFind, findSheet, findChoice, findIn, findOf, Chosen, roomFor, bookFor, bookAndRoom, judged, judgeOf}
 use Rattle.model.specs.Calls.{roomsFor, bookAndRoomsFor, bookAndRooms, annotatedBy, annotated, annotateOf}
 use Rattle.model.specs.Calls.{writtenFor, written, wrote, writeOf, gave, readOf, noProcess, partFor, partArchitecture, cut, partOf}
-use Rattle.model.specs.Refusals.{Formed, BookRefused, not-formed, no-choice, Among}
+use Rattle.model.specs.Refusals.{Formed, BookRefused, no-choice}
 use Rattle.model.specs.Refusals.{FindRefused, JudgeRefused, AnnotateRefused, WriteRefused, ReadRefused, PartRefused}
 use Rattle.model.proofs.Refusing.{stop, go, refused≢proper, same-refused, refused-when, refused-then, then-refused, then-read}
 use Rattle.model.proofs.BookRead.{chosen-faultless, faultless-chosen, chosen-faulty, choice-formed, choice-read, read-choice, book-refused, refused-book}

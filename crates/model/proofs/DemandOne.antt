@@ -2,12 +2,12 @@
 -- annotation, and what is no `loop` the path.
 use mathlib.Core.Path.{_≡_, refl, sym, ap, _∙_}
 use mathlib.Core.Bool.{Bool, true, false}
-use mathlib.Core.Logic.{_⊎_, inl, inr, _↔_}
+use mathlib.Core.Logic.{inl, inr, _↔_}
 use mathlib.Core.List.{List, [], _∷_, _++_, List·Memᴰ, List·Memᴰ·head, List·Memᴰ·tail}
 use mathlib.Core.Option.{Option, none, some}
 use Prim.Native.Nat.{ℕ, _<_}
 use native.Mathlib.Omega.{arith}
-use lib.ListN.{length, take}
+use lib.ListN.{take}
 use Rattle.model.specs.declared.Refusal.{Refusal}
 use Rattle.model.specs.declared.Refusal.the-variants.{SheetTooShort, WrongMark}
 use Rattle.model.specs.declared.Finding.{Finding}
@@ -18,7 +18,6 @@ use Rattle.model.specs.declared.Outcome.{Outcome}
 use Rattle.model.specs.Numbers.{number}
 use Rattle.model.specs.Sheet.{Architecture, Sheet}
 use Rattle.model.specs.Reading.{Reading, refused, proper, readSheet}
-use Rattle.model.specs.SheetFile.{Bytes}
 use Rattle.model.specs.Computed.{loops, firstChoice}
 use Rattle.model.specs.Calls.{Chosen, reply, checkOf, findSheet, findChoice, findIn, findOf, bookAndRooms, annotatedBy}
 use Rattle.model.specs.Calls.{annotated, annotateOf, AfterPath, pathLeft, PathBy, PathFor, AnnotatePath, written, wrote, writeOf, partArchitecture, cut, partOf, part}

@@ -1,7 +1,7 @@
 -- Runs that break a sheet, where the bench cases know only the verdict: one that is forced, step by step, and steps and lassos that are none.
 use mathlib.Core.Path.{_≡_}
 use mathlib.Core.Bool.{true, false}
-use mathlib.Core.List.{List, [], _∷_, _++_}
+use mathlib.Core.List.{List, [], _∷_}
 use Prim.Native.Nat.{ℕ}
 use Rattle.model.specs.Sheet.{Architecture, Edge, Sheet}
 use Rattle.model.specs.SheetFile.{sheetBytes}

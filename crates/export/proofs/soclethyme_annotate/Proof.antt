@@ -1,6 +1,6 @@
 -- `export::soclethyme_annotate` meets its contract: the number is that of the planner's verdict, both buffers are as the planner left them, and the lengths
 -- are handed on where there is a run.
-use mathlib.Core.Path.{_≡_, refl, sym, ap, _∙_}
+use mathlib.Core.Path.{_≡_, sym, ap, _∙_}
 use Prim.Native.Nat.{_+_, _≤_}
 use native.Mathlib.Omega.{arith}
 use borrow.Author.Needs.{needs}
