@@ -16,7 +16,7 @@ use Rattle.sheet.specs.declared.Reading.{Reading}
 use Rattle.sheet.specs.Struct.{sheetOf, readingOf}
 use Rattle.book.specs.declared.TablesRead.{TablesRead}
 use Rattle.book.specs.Answers.{afterRead}
-use Rattle.judging.proofs.BookGivesChoice.{Chose, was-read}
+use Rattle.book.proofs.BookGivesChoice.{Chose, was-read}
 use Rattle.sizes.proofs.SheetRead.{reading-is}
 use Rattle.replay.specs.Run.{runText, HasRun}
 use Rattle.replay.proofs.LassoReplayed.{lasso-run}

@@ -2,3 +2,4 @@
 pub mod OneSlotMore
 pub mod ReadingAnswers
 pub mod PartWithin
+pub mod BookGivesChoice

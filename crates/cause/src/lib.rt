@@ -55,6 +55,7 @@ fn say_cause(refusal: Refusal) {
         Refusal::BadEntry => say(b"an entry has a value that it may not have, or a tie is broken"),
         Refusal::NoSuchProcess => say(b"there is no process of that number"),
         Refusal::PathBufferTooShort => say(b"the path buffer is too short"),
+        Refusal::BadDirectionOrDesk => say(b"the direction or the desk does not fit the sheet"),
         Refusal::BadTie => say(
             b"an SY names a process that there is not, one process twice, or two that do not match",
         ),

@@ -9,7 +9,7 @@ use Rattle.model.specs.Choice.{entries, chosen}
 use Rattle.model.specs.Reading.{refused, _then_}
 use Rattle.model.specs.Book.{readBook}
 use Rattle.model.specs.Numbers.{number}
-use Rattle.judging.proofs.BookGivesChoice.{Chose}
+use Rattle.book.proofs.BookGivesChoice.{Chose}
 use Rattle.text.specs.Text.{refusedText, textOrRefused}
 use Rattle.drawing.specs.Drawing.{bookText}
 use Rattle.drawing.proofs.DrawingReads.{book-text-front}

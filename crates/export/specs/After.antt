@@ -1,11 +1,14 @@
--- What a C caller gets of reading, of asking for a part and of annotating. These are definitions.
+-- What a C caller gets of reading, of asking for a part, of annotating and of a desk. These are definitions.
 use mathlib.Core.Path.{_≡_}
-use mathlib.Core.List.{List, [], _∷_}
+use mathlib.Core.List.{List, [], _∷_, _++_}
 use Prim.Native.Nat.{ℕ, _+_, _*_}
+use lib.ListN.{getD, take}
+use Rattle.model.specs.declared.Desk.{Desk}
 use Rattle.model.specs.declared.Finding.the-variants.{Yes, No}
 use Rattle.model.specs.declared.Verdict.{Verdict}
 use Rattle.model.specs.declared.Reply.{Reply}
 use Rattle.model.specs.Numbers.{number}
+use Rattle.model.specs.Desk.{numbers, processStates}
 use Rattle.model.specs.Calls.{AfterRead, AfterPart, annotateOf, AnnotatePath}
 
 -- the new tables where reading was not refused
@@ -38,3 +41,11 @@ pub record RunAfter (sheet book ann path lengths path′ lengths′ : List ℕ) 
   pub cycle : ℕ
   pub run : AnnotatePath sheet book ann path (record { stem = stem; cycle = cycle; path = path′ })
   pub lengths-are : lengths′ ≡ lengthsBy (annotateOf sheet book ann path .answer) stem cycle lengths
+
+-- the desk of five bytes: the four states, then the mask
+unfoldable pub deskOf : List ℕ → Desk
+deskOf bytes = record { states = processStates (take 4 bytes); environment = getD bytes 4 0 }
+
+-- and back
+unfoldable pub bytesOf : Desk → List ℕ
+bytesOf k = numbers (k .states) ++ (k .environment ∷ [])

@@ -1,11 +1,16 @@
-// The public calls for C and Rust (include/soclethyme.h): an answer is 0 for the good one, 256 for the other finding, otherwise the refusal's number.
+// The public calls for C and Rust (include/soclethyme.h): an answer is 0 for the good one, 256 for the other finding, otherwise the refusal's number. A label
+// or a part of a book is above all of these.
 ghost use mathlib.Core.Path.{_≡_};
-ghost use Rattle.model.specs.Numbers.{replyCode, findingCode, verdictCode, outcomeCode};
+ghost use Rattle.model.specs.Numbers.{replyCode, findingCode, verdictCode, outcomeCode, shownCode};
 ghost use Rattle.model.specs.Calls.{checkOf, findOf, writeOf, readOf, partOf, judgeOf, annotateOf};
-ghost use Rattle.export.specs.After.{tablesAfter, partCode, RunAfter};
+ghost use Rattle.model.specs.Desk.{freshOf, stepOf};
+ghost use Rattle.export.specs.After.{tablesAfter, partCode, RunAfter, deskOf, bytesOf};
+use model::Desk;
 use model::Finding;
 use model::Outcome;
+use model::ProcessState;
 use model::Reply;
+use model::Shown;
 use model::Verdict;
 
 fn reply_code(reply: Reply) -> u32
@@ -45,6 +50,44 @@ fn outcome_code(outcome: Outcome) -> u32
     }
 }
 
+fn shown_code(shown: Shown) -> u32
+    ensures { λ r. ⌜ r ≡ shownCode shown ⌝ }
+{
+    match shown {
+        Shown::Refused(refusal) => refusal.number(),
+        Shown::Label(label) => 65536 + label as u32,
+    }
+}
+
+// ---- a desk is five bytes: the four states, and the mask
+fn desk_of(bytes: [u8; 5]) -> Desk
+    ensures { λ r. ⌜ r ≡ deskOf bytes ⌝ }
+{
+    Desk {
+        states: [
+            ProcessState(bytes[0]),
+            ProcessState(bytes[1]),
+            ProcessState(bytes[2]),
+            ProcessState(bytes[3]),
+        ],
+        environment: bytes[4],
+    }
+}
+
+fn bytes_of(desk: Desk) -> [u8; 5]
+    ensures { λ r. ⌜ r ≡ bytesOf desk ⌝ }
+{
+    let states = desk.states;
+    [
+        states[0].0,
+        states[1].0,
+        states[2].0,
+        states[3].0,
+        desk.environment,
+    ]
+}
+
+// ---- the calls
 #[no_mangle]
 pub extern "C" fn soclethyme_check(sheet: &[u8]) -> u32
     ensures { λ r. ⌜ r ≡ replyCode (checkOf (now (sheet .entry))) ⌝ }
@@ -131,4 +174,31 @@ pub extern "C" fn soclethyme_annotate(
             }
         },
     }
+}
+
+#[no_mangle]
+pub extern "C" fn soclethyme_fresh(sheet: &[u8], desk: &mut [u8; 5]) -> u32
+    ensures { λ r. ⌜ r ≡ replyCode (freshOf (now (sheet .entry)) (deskOf (now (desk .entry))) .answer) ⌝ }
+    ensures { λ _. ⌜ now (desk .exit) ≡ bytesOf (freshOf (now (sheet .entry)) (deskOf (now (desk .entry))) .desk) ⌝ }
+{
+    let fresh = planner::fresh(sheet, desk_of(*desk));
+    *desk = bytes_of(fresh.desk);
+    let answer = fresh.answer;
+    reply_code(answer)
+}
+
+#[no_mangle]
+pub extern "C" fn soclethyme_step(
+    sheet: &[u8],
+    book: &[u8],
+    desk: &mut [u8; 5],
+    direction: u8,
+) -> u32
+    ensures { λ r. ⌜ r ≡ shownCode (stepOf (now (sheet .entry)) (now (book .entry)) (deskOf (now (desk .entry))) direction .answer) ⌝ }
+    ensures { λ _. ⌜ now (desk .exit) ≡ bytesOf (stepOf (now (sheet .entry)) (now (book .entry)) (deskOf (now (desk .entry))) direction .desk) ⌝ }
+{
+    let next = planner::step_by_value(sheet, book, desk_of(*desk), direction);
+    *desk = bytes_of(next.desk);
+    let answer = next.answer;
+    shown_code(answer)
 }

@@ -29,7 +29,7 @@ use Rattle.sheet.specs.declared.Reading.{Reading}
 use Rattle.sheet.specs.Struct.{sheetOf, readingOf}
 use Rattle.book.specs.declared.TablesRead.{TablesRead}
 use Rattle.book.specs.Answers.{afterRead}
-use Rattle.graph.proofs.ChoiceAtFront.{chosen-tables}
+use Rattle.composition.proofs.ChoiceAtFront.{chosen-tables}
 use Rattle.model.proofs.RunGraphSteps.{vertices-few}
 use Rattle.sizes.proofs.SheetRead.{reading-is}
 use Rattle.text.specs.Text.{textOf, noneText, refusedText}

@@ -1,4 +1,3 @@
 -- What the proofs of several functions use.
-pub mod BookGivesChoice
 pub mod RoomForNumbers
 pub mod RoomForPath

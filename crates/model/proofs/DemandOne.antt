@@ -15,16 +15,18 @@ use Rattle.model.specs.declared.Finding.the-variants.{Yes, No}
 use Rattle.model.specs.declared.Verdict.{Verdict}
 use Rattle.model.specs.declared.Reply.{Reply}
 use Rattle.model.specs.declared.Outcome.{Outcome}
+use Rattle.model.specs.declared.Desk.{Desk}
 use Rattle.model.specs.Numbers.{number}
 use Rattle.model.specs.Sheet.{Architecture, Sheet}
 use Rattle.model.specs.Reading.{Reading, refused, proper, readSheet}
 use Rattle.model.specs.Computed.{loops, firstChoice}
 use Rattle.model.specs.Calls.{Chosen, reply, checkOf, findSheet, findChoice, findIn, findOf, bookAndRooms, annotatedBy}
 use Rattle.model.specs.Calls.{annotated, annotateOf, AfterPath, pathLeft, PathBy, PathFor, AnnotatePath, written, wrote, writeOf, partArchitecture, cut, partOf, part}
-use Rattle.model.specs.Refusals.{BookRefused, not-formed, no-choice, Among, FindRefused, JudgeRefused, AnnotateRefused, WriteRefused, ReadRefused, PartRefused}
+use Rattle.model.specs.Refusals.{BookRefused, not-formed, no-choice, Among, FindRefused, JudgeRefused, AnnotateRefused, WriteRefused, ReadRefused, PartRefused, StepRefused}
 use Rattle.model.specs.Demands.{demand-1}
 use Rattle.model.proofs.SheetNumbers.{early}
 use Rattle.model.proofs.CallRefusals.{check-answer, find-exactly, judge-exactly, annotate-exactly, write-exactly, read-exactly, part-exactly}
+use Rattle.model.proofs.DeskRefusals.{step-exactly, fresh-as-check, fresh-kept, step-kept}
 use Rattle.model.proofs.SheetClassified.{unfinished, begins-faulty}
 use Rattle.model.proofs.SheetClassified as classified
 use Rattle.model.proofs.SheetReads.{sheet-reads}
@@ -66,6 +68,11 @@ part-among : (sheet book : List ℕ) (i : ℕ) (r : Refusal) → PartRefused she
 part-among sheet book i r (PartRefused.by-sheet q e) = inl (early sheet r e)
 part-among sheet book i r (PartRefused.no-process s e l) = inr (List·Memᴰ·head refl)
 part-among sheet book i r (PartRefused.by-book s q e l h) = inr (List·Memᴰ·tail (book-among (s .architecture) book r [] h))
+
+step-among : (sheet book : List ℕ) (k : Desk) (d : ℕ) (r : Refusal) → StepRefused sheet book k d r → Among (10 ∷ 11 ∷ 14 ∷ []) r
+step-among sheet book k d r (StepRefused.by-sheet q e) = inl (early sheet r e)
+step-among sheet book k d r (StepRefused.by-book s q e h) = inr (book-among (s .architecture) book r (14 ∷ []) h)
+step-among sheet book k d r (StepRefused.misfit s c e f choice m) = inr (List·Memᴰ·tail (List·Memᴰ·tail (List·Memᴰ·head refl)))
 
 -- ---- a sheet that is checked
 was-proper : (sheet : List ℕ) → checkOf sheet ≡ Reply.Done → (s : Sheet) × (readSheet sheet ≡ proper s)
@@ -155,6 +162,8 @@ first-demand = record {
   write-refusals = write-exactly;
   read-refusals = read-exactly;
   part-refusals = part-exactly;
+  fresh-refusals = fresh-as-check;
+  step-refusals = step-exactly;
   check-numbers = λ sheet r e. inl (early sheet r (check-refused sheet r .0 e));
   find-numbers = λ sheet book ann r e. find-among sheet book ann r (find-exactly sheet book ann r .0 e);
   judge-numbers = λ sheet book ann r e. judge-among sheet book ann r (judge-exactly sheet book ann r .0 e);
@@ -162,6 +171,7 @@ first-demand = record {
   write-numbers = λ sheet tables book r e. write-among sheet tables book r (write-exactly sheet tables book r .0 e);
   read-numbers = λ sheet book r e. read-among sheet book r (read-exactly sheet book r .0 e);
   part-numbers = λ sheet book i r e. part-among sheet book i r (part-exactly sheet book i r .0 e);
+  step-numbers = λ sheet book k d r e. step-among sheet book k d r (step-exactly sheet book k d r .0 e);
   find-refused = λ sheet book ann r e. find-kept (findSheet sheet book ann) book ann (Outcome.Refused r) e (refused≢tables r);
   annotate-refused = λ sheet book ann path r e. (
     annotate-kept (bookAndRooms sheet book ann path) ann (Verdict.Refused r) e (refused≢found r Yes),
@@ -169,6 +179,8 @@ first-demand = record {
   );
   write-refused = λ sheet tables book r e. write-kept (written sheet tables book) book r e;
   part-refused = λ sheet book i r e. part-kept (partArchitecture sheet book i) book i r e;
+  fresh-refused = fresh-kept;
+  step-refused = step-kept;
   none-writes-nothing = λ sheet book ann e. find-kept (findSheet sheet book ann) book ann Outcome.Nothing e nothing≢tables;
   loop-leaves-annotation = λ sheet book ann path e. annotate-kept (bookAndRooms sheet book ann path) ann (Verdict.Found No) e no≢yes;
   no-loop-leaves-path = λ sheet book ann path after n p. path-kept (bookAndRooms sheet book ann path) ann path after n p;

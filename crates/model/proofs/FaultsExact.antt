@@ -20,7 +20,7 @@ pub or-off : {a b : Bool} → a ≡ false → b ≡ false → (a || b) ≡ false
 or-off p q = rw p q
 
 -- a mask below the bit n has none at or above it
-not-beyond : (m n : ℕ) → m < 2 ^ n → beyond m n ≡ false
+pub not-beyond : (m n : ℕ) → m < 2 ^ n → beyond m n ≡ false
 unfolding beyond
 not-beyond m n l = lt-leb (2 ^ n) m l
 

@@ -41,7 +41,7 @@ pub or-false : (a b : Bool) → (a || b) ≡ false → (a ≡ false) × (b ≡ f
 or-false true b e = absurd (true≢false e)
 or-false false b e = (refl, e)
 
-below-bit : (m n : ℕ) → beyond m n ≡ false → m < 2 ^ n
+pub below-bit : (m n : ℕ) → beyond m n ≡ false → m < 2 ^ n
 unfolding beyond
 below-bit m n e = leb-false (2 ^ n) m e
 

@@ -10,12 +10,13 @@ use Rattle.model.specs.Reading.{Reading, refused, proper, readSheet}
 use Rattle.model.specs.Choice.{KeepsTies}
 use Rattle.model.specs.Book.{bookOf}
 use Rattle.model.specs.Calls.{bookShort, annotationShort, findSheet, roomToFind, findIn, findOf}
-use Rattle.model.specs.Refusals.{JudgeRefused, AnnotateRefused, WriteRefused, ReadRefused, PartRefused, BookRefused, no-choice}
+use Rattle.model.specs.Refusals.{JudgeRefused, AnnotateRefused, WriteRefused, ReadRefused, PartRefused, StepRefused, BookRefused, no-choice}
 use Rattle.model.specs.Demands.{tied, itself, back, link, OneTable, Breaks, bookFound, tied-tables}
 use Rattle.model.proofs.ProperSheet.{goes-on, passes, same-proper}
 use Rattle.model.proofs.FitsTest.{fits-length}
 use Rattle.model.proofs.BookRead.{choice-read, read-choice}
 use Rattle.model.proofs.CallRefusals.{judge-exactly, annotate-exactly, write-exactly, read-exactly, part-exactly}
+use Rattle.model.proofs.DeskRefusals.{step-exactly}
 use Rattle.model.proofs.DemandThree.{own-choice}
 
 -- ties chain: no word of it is needed in `KeepsTies`
@@ -57,5 +58,6 @@ module _ (sheet : List ℕ) (s : Sheet) (is-proper : readSheet sheet ≡ proper 
     broken-part = λ c i b l. part-exactly sheet (bookOf (s .architecture) c) i BadEntry .1 (PartRefused.by-book s BadEntry is-proper l (broken-book (s .architecture) c b));
     broken-judged = λ c ann b. judge-exactly sheet (bookOf (s .architecture) c) ann BadEntry .1 (JudgeRefused.by-book s BadEntry is-proper (broken-book (s .architecture) c b));
     broken-annotated = λ c ann path b. annotate-exactly sheet (bookOf (s .architecture) c) ann path BadEntry .1 (AnnotateRefused.by-book s BadEntry is-proper (broken-book (s .architecture) c b));
+    broken-stepped = λ c k d b. step-exactly sheet (bookOf (s .architecture) c) k d BadEntry .1 (StepRefused.by-book s BadEntry is-proper (broken-book (s .architecture) c b));
     broken-written = λ tables book b. write-exactly sheet tables book BadEntry .1 (WriteRefused.no-choice s is-proper (λ choice. b .broken (choice .ties)));
   }

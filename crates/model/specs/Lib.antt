@@ -9,6 +9,7 @@ pub mod RunGraph
 pub mod Computed
 pub mod Book
 pub mod Calls
+pub mod Desk
 pub mod Numbers
 pub mod Refusals
 pub mod Demands

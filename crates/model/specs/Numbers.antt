@@ -1,15 +1,16 @@
 -- 01, "Who causes which refusal": the number of each refusal, and what each answer says in the words of 01.
 use mathlib.Core.List.{List, [], _∷_}
-use Prim.Native.Nat.{ℕ}
+use Prim.Native.Nat.{ℕ, _+_}
 use Rattle.model.specs.declared.Refusal.{Refusal}
 use Rattle.model.specs.declared.Refusal.the-variants.{SheetTooShort, WrongMark, BadArchitecture, BadProcess, NoOwnerOrTooMany, BadAutomaton}
 use Rattle.model.specs.declared.Refusal.the-variants.{BadEdge, BookBufferTooShort, AnnotationBufferTooShort, BadBook, BadEntry, NoSuchProcess}
-use Rattle.model.specs.declared.Refusal.the-variants.{PathBufferTooShort, BadTie, BadPrompt}
+use Rattle.model.specs.declared.Refusal.the-variants.{PathBufferTooShort, BadDirectionOrDesk, BadTie, BadPrompt}
 use Rattle.model.specs.declared.Finding.{Finding}
 use Rattle.model.specs.declared.Finding.the-variants.{Yes, No}
 use Rattle.model.specs.declared.Verdict.{Verdict}
 use Rattle.model.specs.declared.Reply.{Reply}
 use Rattle.model.specs.declared.Outcome.{Outcome}
+use Rattle.model.specs.declared.Shown.{Shown}
 
 -- a refusal gives its number alone
 abbrev pub number : Refusal → ℕ
@@ -26,6 +27,7 @@ number BadBook = 10
 number BadEntry = 11
 number NoSuchProcess = 12
 number PathBufferTooShort = 13
+number BadDirectionOrDesk = 14
 number BadTie = 15
 number BadPrompt = 21
 
@@ -54,3 +56,8 @@ abbrev pub outcomeCode : Outcome → ℕ
 outcomeCode (Outcome.Refused r) = number r
 outcomeCode Outcome.Tables = 0
 outcomeCode Outcome.Nothing = 256
+
+-- a step on a desk: the label, above all refusals
+abbrev pub shownCode : Shown → ℕ
+shownCode (Shown.Refused r) = number r
+shownCode (Shown.Label l) = 65536 + l

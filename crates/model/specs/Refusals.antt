@@ -1,13 +1,16 @@
--- 01, "Who causes which refusal", 8 to 13: what each call is refused for, in order. Each case has its own condition, and that none before it holds.
+-- 01, "Who causes which refusal", 8 to 14: what each call is refused for, in order. Each case has its own condition, and that none before it holds.
 use mathlib.Core.Path.{_≡_}
 use mathlib.Core.Logic.{_⊎_}
 use mathlib.Core.List.{List, List·Memᴰ}
-use Prim.Native.Nat.{ℕ, _*_, _≤_, _<_}
-use lib.ListN.{length}
+use mathlib.Core.Option.{some}
+use Prim.Native.Nat.{ℕ, _*_, _^_, _≤_, _<_}
+use lib.ListN.{length, getElem?}
 use Rattle.model.specs.declared.Refusal.{Refusal}
-use Rattle.model.specs.declared.Refusal.the-variants.{BookBufferTooShort, AnnotationBufferTooShort, BadBook, BadEntry, NoSuchProcess, PathBufferTooShort}
+use Rattle.model.specs.declared.Refusal.the-variants.{BookBufferTooShort, AnnotationBufferTooShort, BadBook, BadEntry, NoSuchProcess, PathBufferTooShort, BadDirectionOrDesk}
+use Rattle.model.specs.declared.ProcessState.{ProcessState}
+use Rattle.model.specs.declared.Desk.{Desk}
 use Rattle.model.specs.Numbers.{number, sheetNumbers}
-use Rattle.model.specs.Sheet.{Architecture, Sheet}
+use Rattle.model.specs.Sheet.{Process, Architecture, Sheet}
 use Rattle.model.specs.Reading.{refused, proper, readSheet}
 use Rattle.model.specs.Choice.{entries, IsChoice, chosen}
 use Rattle.model.specs.RunGraph.{vertices}
@@ -63,6 +66,19 @@ pub data PartRefused (sheet book : List ℕ) (i : ℕ) : Refusal → Type 0 wher
   by-sheet : (r : Refusal) → readSheet sheet ≡ refused r → PartRefused sheet book i r
   no-process : (s : Sheet) → readSheet sheet ≡ proper s → length (s .architecture .processes) ≤ i → PartRefused sheet book i NoSuchProcess
   by-book : (s : Sheet) (r : Refusal) → readSheet sheet ≡ proper s → i < length (s .architecture .processes) → BookRefused (s .architecture) book r → PartRefused sheet book i r
+
+-- 14: a bit outside the environment variables in the direction or in the desk's mask, or a process of the sheet in a state at or above its bound
+pub data Misfits (a : Architecture) (k : Desk) (d : ℕ) : Type 0 where
+  direction-out : 2 ^ a .environment ≤ d → Misfits a k d
+  mask-out : 2 ^ a .environment ≤ k .environment → Misfits a k d
+  state-out : (i : ℕ) (p : Process) (x : ProcessState) → getElem? (a .processes) i ≡ some p → getElem? (k .states) i ≡ some x → p .bound ≤ x .0 → Misfits a k d
+
+-- step: the sheet's faults, then 10, 11, then 14
+pub data StepRefused (sheet book : List ℕ) (k : Desk) (d : ℕ) : Refusal → Type 0 where
+  by-sheet : (r : Refusal) → readSheet sheet ≡ refused r → StepRefused sheet book k d r
+  by-book : (s : Sheet) (r : Refusal) → readSheet sheet ≡ proper s → BookRefused (s .architecture) book r → StepRefused sheet book k d r
+  misfit : (s : Sheet) (c : List ℕ) → readSheet sheet ≡ proper s → Formed (s .architecture) book c → IsChoice (s .architecture) c → Misfits (s .architecture) k d
+      → StepRefused sheet book k d BadDirectionOrDesk
 
 -- the number is that of a fault of the sheet, or one of these
 abbrev pub Among : List ℕ → Refusal → Type 0

@@ -7,14 +7,16 @@ use Rattle.model.specs.declared.Verdict.{Verdict}
 use Rattle.model.specs.Sheet.{Sheet}
 use Rattle.model.specs.Reading.{proper, readSheet}
 use Rattle.model.specs.BenchCases.{sheetE, edge, bookE}
+use Rattle.model.specs.Book.{readBook}
 use Rattle.model.specs.Calls.{findSheet, judgeOf}
-use Rattle.model.specs.Demands.{demand-1, demand-2, demand-3, tied-tables, prompt-inputs, unless-edges, sizes}
+use Rattle.model.specs.Demands.{demand-1, demand-2, demand-3, tied-tables, prompt-inputs, unless-edges, desk, sizes}
 use Rattle.model.proofs.DemandOne.{first-demand}
 use Rattle.model.proofs.DemandTwo.{second-demand}
 use Rattle.model.proofs.DemandThree.{third-demand}
 use Rattle.model.proofs.TiedTables.{all-tied}
 use Rattle.model.proofs.PromptInputs.{all-prompted}
 use Rattle.model.proofs.UnlessEdges.{all-unless}
+use Rattle.model.proofs.DeskShows.{desk-shows}
 use Rattle.model.proofs.Sizes.{all-sizes}
 
 -- 1: a fault gets exactly its number, and every lent buffer then holds what it held before
@@ -40,6 +42,11 @@ exact-prompts = all-prompted
 -- edges that say unless: EX turns the test of the masks round, and nothing else
 pub exact-unless : unless-edges
 exact-unless = all-unless
+
+-- the desk: made fresh and stepped it holds what the composition shows after the directions not refused, and answers the labels then due
+pub exact-desk : (sheet book : List ℕ) (s : Sheet) (c : List ℕ) (is-proper : readSheet sheet ≡ proper s) (is-book : readBook (s .architecture) book ≡ proper c)
+    → desk sheet book s c is-proper is-book
+exact-desk = desk-shows
 
 -- the sizes that 01 prints
 pub exact-sizes : (sheet : List ℕ) (s : Sheet) (is-proper : readSheet sheet ≡ proper s) → sizes sheet s is-proper

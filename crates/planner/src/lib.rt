@@ -2,13 +2,18 @@
 ghost use mathlib.Core.Path.{_≡_};
 ghost use Rattle.model.specs.Calls.{checkOf, findOf, writeOf, readOf, partOf, judgeOf, annotateOf, AnnotatePath};
 ghost use Rattle.model.specs.Calls.{part as partIn};
+ghost use Rattle.model.specs.Desk.{freshOf, stepOf};
 ghost use Rattle.book.specs.Answers.{afterRead, afterPart};
 ghost use Rattle.judging.specs.Answers.{afterPath};
 use book::Part;
 use book::TablesRead;
 use judging::Annotated;
+use model::Desk;
+use model::FreshDesk;
 use model::Outcome;
 use model::Reply;
+use model::Shown;
+use model::Stepped;
 use model::Verdict;
 
 // A proper sheet, or the refusal of its first fault.
@@ -126,4 +131,54 @@ pub fn annotate(sheet: &[u8], book: &[u8], annotation: &mut [u16], path: &mut [u
             judging::annotate_for(read, book, annotation, path)
         }
     }
+}
+
+// Makes a desk fresh: the sheet's processes in state 0, and the root mask. A refusal hands the desk back as it came, and so are the places of processes that
+// the sheet lacks.
+pub fn fresh(sheet: &[u8], desk: Desk) -> FreshDesk
+    ensures { λ r. ⌜ r ≡ freshOf (now (sheet .entry)) desk ⌝ }
+{
+    let reading = sheet::read(sheet);
+    let answer = reading.answer;
+    match answer {
+        Reply::Refused(refusal) => FreshDesk {
+            answer: Reply::Refused(refusal),
+            desk,
+        },
+        Reply::Done => {
+            let read = reading.sheet;
+            let a = read.architecture;
+            FreshDesk {
+                answer: Reply::Done,
+                desk: desk::fresh_for(a, desk),
+            }
+        }
+    }
+}
+
+// The desk after one direction, and its new label.
+pub fn step_by_value(sheet: &[u8], book: &[u8], desk: Desk, direction: u8) -> Stepped
+    ensures { λ r. ⌜ r ≡ stepOf (now (sheet .entry)) (now (book .entry)) desk direction ⌝ }
+{
+    let reading = sheet::read(sheet);
+    let answer = reading.answer;
+    match answer {
+        Reply::Refused(refusal) => desk::refused(refusal, desk),
+        Reply::Done => {
+            let read = reading.sheet;
+            let a = read.architecture;
+            desk::step_for(a, book, desk, direction)
+        }
+    }
+}
+
+// Moves the desk that is lent on by one direction, and answers its new label. No branch: a refused step stores the desk as it came.
+pub fn step(sheet: &[u8], book: &[u8], desk: &mut Desk, direction: u8) -> Shown
+    ensures { λ r.
+        ⌜ (r ≡ stepOf (now (sheet .entry)) (now (book .entry)) (now (desk .entry)) direction .answer)
+        × (now (desk .exit) ≡ stepOf (now (sheet .entry)) (now (book .entry)) (now (desk .entry)) direction .desk) ⌝ }
+{
+    let next = step_by_value(sheet, book, *desk, direction);
+    *desk = next.desk;
+    next.answer
 }

@@ -23,7 +23,7 @@ use Rattle.sheet.proofs.AnswersOfReading.{architecture-proper}
 use Rattle.composition.specs.declared.Composed.{Composed}
 use Rattle.composition.specs.Struct.{composedOf, IsState}
 use Rattle.composition.proofs.StructIsModelState.{state-in}
-use Rattle.graph.proofs.ChoiceAtFront.{step-chosen}
+use Rattle.composition.proofs.ChoiceAtFront.{step-chosen}
 use Rattle.replay.specs.Run.{startOf, nowhere, onward}
 use Rattle.replay.specs.Struct.{choiceIn, vertexAt}
 

@@ -6,7 +6,7 @@ use Rattle.model.specs.Choice.{entries}
 use Rattle.model.proofs.FitsTest.{fits-length}
 use Rattle.architecture.specs.Struct.{architectureOf}
 use Rattle.sheet.specs.Struct.{sheetOf}
-use Rattle.judging.proofs.BookGivesChoice.{Chose, was-refused, was-read}
+use Rattle.book.proofs.BookGivesChoice.{Chose, was-refused, was-read}
 use Rattle.draw.proofs.BookDrawn.{drawn-refused, drawn-tables}
 use Rattle.draw.proofs.tables_text.Statement.{statement}
 use Rattle.draw.proofs.tables_text.Tie as tie

@@ -7,7 +7,7 @@ use Rattle.model.specs.Calls.{bookAndRoomsFor}
 use Rattle.model.proofs.Refusing.{then-refused}
 use Rattle.architecture.specs.Struct.{architectureOf}
 use Rattle.sheet.proofs.AnswersOfReading.{architecture-proper}
-use Rattle.judging.proofs.BookGivesChoice.{Chose, was-refused, was-read}
+use Rattle.book.proofs.BookGivesChoice.{Chose, was-refused, was-read}
 use Rattle.judging.proofs.RoomForPath.{due-refused}
 use Rattle.judging.proofs.annotate_for.Statement.{statement}
 use Rattle.judging.proofs.annotate_for.Tie as tie

@@ -6,7 +6,7 @@ use Rattle.model.specs.Reading.{_then_}
 use Rattle.model.specs.Calls.{judged, bookFor}
 use Rattle.architecture.specs.Struct.{architectureOf}
 use Rattle.sheet.proofs.AnswersOfReading.{architecture-proper}
-use Rattle.judging.proofs.BookGivesChoice.{Chose, was-refused, was-read}
+use Rattle.book.proofs.BookGivesChoice.{Chose, was-refused, was-read}
 use Rattle.judging.proofs.judge_for.Statement.{statement}
 use Rattle.judging.proofs.judge_for.Tie as tie
 

@@ -11,7 +11,7 @@ use Rattle.architecture.specs.Struct.{architectureOf}
 use Rattle.architecture.proofs.ProcessesOfArrays.{facts}
 use Rattle.composition.specs.Struct.{numbers, composedOf}
 use Rattle.composition.proofs.StructIsModelState.{state-in, chosen-long}
-use Rattle.graph.proofs.ChoiceAtFront.{label-chosen}
+use Rattle.composition.proofs.ChoiceAtFront.{label-chosen}
 use Rattle.append.specs.Appends.{Appends}
 use Rattle.append.proofs.Appended.{room-front, append-more, append-room}
 use Rattle.template.specs.Template.{filled}

@@ -10,10 +10,10 @@ use Rattle.model.specs.Choice.{IsTables, chosen}
 use Rattle.model.specs.Book.{readBook}
 use Rattle.model.specs.Calls.{AfterRead, tablesOf, gave}
 use Rattle.model.proofs.BookRead.{read-choice}
 use Rattle.book.specs.declared.TablesRead.{TablesRead}
 use Rattle.book.specs.Answers.{afterRead}
 use Rattle.book.proofs.ReadingAnswers.{gave-refused, gave-done}
-use Rattle.graph.proofs.ChoiceAtFront.{chosen-tables}
+use Rattle.composition.proofs.ChoiceAtFront.{chosen-tables}
 
 -- what the book holds is at the front of the tables
 pub record Chose (a : Architecture) (book tables : List ℕ) : Type 0 where
