@@ -4,9 +4,10 @@
 use std::ops::Range;
 
 use crate::book::Tables;
+use crate::desk::Desk;
 use crate::refusal::Refusal;
 
-/// Proper, found, written, read, valid, annotated.
+/// Proper, found, written, read, valid, annotated, fresh.
 pub const POSITIVE: u32 = 0;
 /// None, not valid, a rejecting loop.
 pub const NEGATIVE: u32 = 256;
@@ -61,12 +62,21 @@ extern "C" {
         path_len: usize,
         lengths: *mut u32,
     ) -> u32;
+    fn soclethyme_fresh(sheet: *const u8, sheet_len: usize, desk: *mut u8) -> u32;
+    fn soclethyme_step(
+        sheet: *const u8,
+        sheet_len: usize,
+        book: *const u8,
+        book_len: usize,
+        desk: *mut u8,
+        direction: u8,
+    ) -> u32;
 }
 
 // SAFETY, of every call below: each pointer and length are those of one live
-// slice, and tables and the two lengths of a run have the length that the calls
-// expect. A call writes only to what it gets as `*mut`, which is lent as `&mut`
-// and so overlaps nothing else.
+// slice, and tables, the two lengths of a run and desks have the length that the
+// calls expect. A call writes only to what it gets as `*mut`, which is lent as
+// `&mut` and so overlaps nothing else.
 
 /// Whether the sheet is proper: positive, or the refusal.
 pub fn check(sheet: &[u8]) -> u32 {
@@ -167,6 +177,25 @@ pub fn annotate(
     }
 }
 
+/// Positive for a desk at the initial composed state, otherwise the refusal.
+pub fn fresh(sheet: &[u8], desk: &mut Desk) -> u32 {
+    unsafe { soclethyme_fresh(sheet.as_ptr(), sheet.len(), desk.as_mut_ptr()) }
+}
+
+/// The label behind the step, as `label_number` gives it, or the refusal.
+pub fn step(sheet: &[u8], book: &[u8], desk: &mut Desk, direction: u8) -> u32 {
+    unsafe {
+        soclethyme_step(
+            sheet.as_ptr(),
+            sheet.len(),
+            book.as_ptr(),
+            book.len(),
+            desk.as_mut_ptr(),
+            direction,
+        )
+    }
+}
+
 /// The number for a call that succeeds or is refused.
 pub fn success_number(result: Result<(), Refusal>) -> u32 {
     result.err().unwrap_or(POSITIVE)
@@ -190,4 +219,9 @@ pub fn part_number(part: &Range<usize>) -> u32 {
 pub fn numbered_part(number: u32) -> Range<usize> {
     let number = number as usize;
     number % 65_536..number / 65_536
+}
+
+/// The number for a label, which is above those of all refusals.
+pub fn label_number(label: u8) -> u32 {
+    65_536 + u32::from(label)
 }

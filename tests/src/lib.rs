@@ -5,6 +5,7 @@
 pub mod book;
 pub mod choices;
 pub mod components;
+pub mod desk;
 pub mod fast_enumeration;
 pub mod lasso;
 pub mod lasso_search;

@@ -16,6 +16,7 @@ pub const WRONG_FORM: Refusal = 10;
 pub const WRONG_ENTRY: Refusal = 11;
 pub const NO_PROCESS: Refusal = 12;
 pub const SHORT_PATH: Refusal = 13;
+pub const WRONG_DESK: Refusal = 14;
 pub const WRONG_TIE: Refusal = 15;
 pub const WRONG_PROMPT: Refusal = 21;
 

@@ -157,6 +157,15 @@ module _ (sheet book : List ℕ) (s : Sheet) (c : List ℕ) (is-proper : readShe
           ap (λ (x : Composed). record { answer = Shown.Label (label a c (step a c x d)); desk = showing (showing k t) (step a c x d) }) (held k t w)
           ∙ ap (λ (x : Desk). record { answer = Shown.Label (label a c u); desk = x }) (shown-last k t u long)
 
+  -- so it is after any step
+  pub still-state : (k : Desk) (d : ℕ) → IsState a (onDesk a k) → IsState a (onDesk a (stepOf sheet book k d .desk))
+  unfolding stateOf
+  still-state k d w = subst (IsState a) (sym (counts k d .1)) (by (deskFault a (onDesk a k) d) (only-direction a (onDesk a k) d w))
+    where
+      by : (f : Bool) → f ≡ beyond d (a .environment) → IsState a (stateOf f (onDesk a k) d)
+      by true e = w
+      by false e = step-in a c (onDesk a k) d tables w (below-bit d (a .environment) (sym e))
+
   -- along a row of directions
   record Holds (k : Desk) (t : Composed) (ds : List ℕ) : Type 0 where
     pub whole : deskAfter sheet book (showing k t) ds ≡ showing k (after a c t (possible a ds))
@@ -192,9 +201,15 @@ module _ (sheet book : List ℕ) (s : Sheet) (c : List ℕ) (is-proper : readShe
   unfolding freshOf freshIn
   fresh-is k = ap (λ (m : Reading Sheet). freshIn m k) is-proper
 
+  starts : IsState a (initial a)
+  starts = initial-in a (sheet-proper sheet s is-proper .architecture)
+
+  pub fresh-state : (k : Desk) → IsState a (onDesk a (freshOf sheet k .desk))
+  fresh-state k = subst (IsState a) (sym (ap (λ (x : FreshDesk). onDesk a (x .desk)) (fresh-is k) ∙ held k (initial a) starts)) starts
+
   module _ (k : Desk) (ds : List ℕ) where
     from-fresh : Holds k (initial a) ds
-    from-fresh = holding k (initial a) ds (initial-in a (sheet-proper sheet s is-proper .architecture))
+    from-fresh = holding k (initial a) ds starts
 
     holds-fresh : deskAfter sheet book (freshOf sheet k .desk) ds ≡ showing k (after a c (initial a) (possible a ds))
     holds-fresh = ap (λ (x : FreshDesk). deskAfter sheet book (x .desk) ds) (fresh-is k) ∙ from-fresh .whole

@@ -9,7 +9,7 @@ use Rattle.model.specs.BenchCases.{sheetA}
 use Rattle.model.specs.Compose.{label, step, initial}
 use Rattle.template.specs.Template as template
 use Rattle.text.specs.Text.{fields}
-use Rattle.replay.specs.Run.{startOf, onward, after, vertexText, stepText, stepsText, openingText, runText}
+use Rattle.replay.specs.Run.{startOf, onward, after, withStates, vertexText, stepText, stepsText, openingText, runText}
 
 -- state 0 grants g1 and stays
 abbrev stays : List ℕ
@@ -30,5 +30,5 @@ textA =
 
 pub replays-a : (readSheet (sheetA 2) then λ s. proper (runText s stays 2 1 waiting)) ≡ proper textA
 unfolding readSheet _then_ if label step initial template.digit template.decimalIn template.decimal template.hex template.part template.taken template.filled
-    fields startOf onward after vertexText stepText stepsText openingText runText
+    fields startOf onward after withStates vertexText stepText stepsText openingText runText
 replays-a = refl

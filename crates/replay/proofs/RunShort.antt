@@ -14,10 +14,10 @@ use Rattle.model.proofs.ComposedNumbers.{InBounds, nobody, also-in, IsState, st
 use Rattle.graph.proofs.TableEntries.{few-directions}
 use Rattle.template.proofs.FilledShort.{longest, filled-short}
 use Rattle.text.specs.Text.{field, fields}
-use Rattle.replay.specs.Run.{Vertex, startOf, nowhere, onward, after, vertexText, stepText, stepsText, openingText, stemOf, runText, Possible, none, also, HasRun}
+use Rattle.replay.specs.Run.{Vertex, startOf, nowhere, onward, after, withStates, vertexText, stepText, stepsText, openingText, stemOf, runText, Possible, none, also, HasRun}
 
 -- a state has one digit
-states-short : {v e : ℕ} {ps : List Process} {xs : List ℕ} → ProperProcesses v e ps → InBounds ps xs → length (fields xs) ≤ 2 * length ps
+pub states-short : {v e : ℕ} {ps : List Process} {xs : List ℕ} → ProperProcesses v e ps → InBounds ps xs → length (fields xs) ≤ 2 * length ps
 unfolding fields longest
 states-short g nobody = omega arith
 states-short g (also-in {p = p} {ps} {x} {xs} l w) =
@@ -72,7 +72,7 @@ module _ (s : Sheet) (good : ProperSheet s) (c : List ℕ) (choice : IsTables (s
 
     -- what is said of a vertex
     vertex-short : (v : Vertex) → InRun s v → length (vertexText (s .architecture) c v) ≤ 38
-    unfolding vertexText longest
+    unfolding vertexText withStates longest
     vertex-short v i =
         let a = s .architecture in
         let f = good .architecture .front in

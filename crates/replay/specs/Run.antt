@@ -34,9 +34,14 @@ after s c v (d ∷ []) = v
 after s c v (d ∷ e ∷ steps) = after s c (onward s c v d e) steps
 
 -- ---- the text
+-- a line that ends with the state of each process, behind a template with its holes filled
+unfoldable pub withStates : (template numbers states : List ℕ) → List ℕ
+withStates template numbers states = filled template numbers ++ fields states ++ ascii "\n"
+
 -- a vertex: its automaton state, its label and the state of each process
 unfoldable pub vertexText : Architecture → List ℕ → Vertex → List ℕ
-vertexText a c v = filled (ascii "automaton # label % states") (v .automaton ∷ label a c (v .composed) ∷ []) ++ fields (v .composed .states) ++ ascii "\n"
+unfolding withStates
+vertexText a c v = withStates (ascii "automaton # label % states") (v .automaton ∷ label a c (v .composed) ∷ []) (v .composed .states)
 
 -- a step from v, with the vertex behind it
 unfoldable pub stepText : Sheet → List ℕ → Vertex → ℕ → ℕ → List ℕ

@@ -6,7 +6,7 @@ ghost use lib.ListN.{length, take};
 ghost use Rattle.model.specs.Choice.{chosen, IsTables};
 ghost use Rattle.architecture.specs.Struct.{IsProper as IsProperArchitecture, architectureOf};
 ghost use Rattle.sheet.specs.Struct.{sheetOf, IsProper};
-ghost use Rattle.composition.specs.Struct.{numbers, IsState};
+ghost use Rattle.composition.specs.Struct.{numbers as numbersOf, IsState};
 ghost use Rattle.append.specs.Appends.{Appends};
 ghost use Rattle.template.specs.Holds.{Holds};
 ghost use Rattle.template.specs.Template.{filled};
@@ -29,9 +29,9 @@ struct Progress {
 
 // The state of each process: answers the index behind them.
 fn put_states(text: &mut [u8], start: usize, processes: usize, state: Composed) -> usize
-    requires { ⌜ (processes ≤ 4) × (length (numbers (state .states)) ≡ 4) ⌝ }
-    requires { ⌜ start + length (fields (take processes (numbers (state .states)))) ≤ length (now text) ⌝ }
-    ensures { λ r. ⌜ Appends (now (text .entry)) start (fields (take processes (numbers (state .states)))) r (now (text .exit)) ⌝ }
+    requires { ⌜ (processes ≤ 4) × (length (numbersOf (state .states)) ≡ 4) ⌝ }
+    requires { ⌜ start + length (fields (take processes (numbersOf (state .states)))) ≤ length (now text) ⌝ }
+    ensures { λ r. ⌜ Appends (now (text .entry)) start (fields (take processes (numbersOf (state .states)))) r (now (text .exit)) ⌝ }
 {
     let mut at = start;
     let mut i: usize = 0;
@@ -40,6 +40,24 @@ fn put_states(text: &mut [u8], start: usize, processes: usize, state: Composed) 
         i += 1;
     }
     at
+}
+
+// A template with its holes filled, the state of each process behind it, and the line's end: answers the index behind it.
+pub fn put_with_states(
+    text: &mut [u8],
+    at: usize,
+    template: &[u8],
+    numbers: &[usize],
+    processes: usize,
+    state: Composed,
+) -> usize
+    requires { ⌜ (processes ≤ 4) × (length (numbersOf (state .states)) ≡ 4) ⌝ }
+    requires { ⌜ at + length (spec.withStates (now template) (now numbers) (take processes (numbersOf (state .states)))) ≤ length (now text) ⌝ }
+    ensures { λ r. ⌜ Appends (now (text .entry)) at (spec.withStates (now (template .entry)) (now (numbers .entry)) (take processes (numbersOf (state .states)))) r (now (text .exit)) ⌝ }
+{
+    let after_template = put_filled(text, at, template, numbers);
+    let after_states = put_states(text, after_template, processes, state);
+    put_bytes(text, after_states, b"\n")
 }
 
 // A vertex: answers the index behind it.
@@ -58,14 +76,14 @@ fn put_vertex(
     ensures { λ r. ⌜ Appends (now (text .entry)) at (spec.vertexText (architectureOf a) (chosen (architectureOf a) (now (tables .entry))) (vertexAt a automaton state)) r (now (text .exit)) ⌝ }
 {
     let label = state.label(a, tables);
-    let after_label = put_filled(
+    put_with_states(
         text,
         at,
         b"automaton # label % states",
         &[automaton.0 as usize, label as usize],
-    );
-    let after_states = put_states(text, after_label, a.processes, state);
-    put_bytes(text, after_states, b"\n")
+        a.processes,
+        state,
+    )
 }
 
 // A line: a template with its holes filled, and the vertex that the run has come to.

@@ -1,0 +1,101 @@
+-- What is known of the two files: one is refused, or both are read, and the tables begin with the book's choice.
+use mathlib.Core.Path.{_≡_, sym, ap, _∙_, subst}
+use mathlib.Core.Logic.{_⊎_, inl, inr}
+use mathlib.Core.List.{List}
+use Prim.Native.Nat.{ℕ, _^_, _<_}
+use Rattle.model.specs.declared.Refusal.{Refusal}
+use Rattle.model.specs.declared.Reply.{Reply}
+use Rattle.model.specs.declared.Desk.{Desk}
+use Rattle.model.specs.Numbers.{number}
+use Rattle.model.specs.Sheet as model
+use Rattle.model.specs.Reading.{refused, proper, _then_, readSheet}
+use Rattle.model.specs.Choice.{IsTables, chosen}
+use Rattle.model.specs.Book.{readBook}
+use Rattle.model.specs.Calls.{AfterRead, tablesOf, gave, readOf}
+use Rattle.model.specs.Desk.{onDesk, freshOf, stepOf}
+use Rattle.model.proofs.ProperSheet.{goes-on, sheet-proper}
+use Rattle.model.proofs.Refusing.{then-read, then-refused, refused-then}
+use Rattle.model.proofs.BookRead.{read-choice}
+use Rattle.model.proofs.ComposedNumbers.{IsState}
+use Rattle.model.proofs.DeskShows.{still-state, fresh-state}
+use Rattle.architecture.specs.Struct.{architectureOf}
+use Rattle.composition.proofs.ChoiceAtFront.{chosen-tables}
+use Rattle.sheet.specs.declared.Reading.{Reading}
+use Rattle.sheet.specs.declared.Sheet.{Sheet}
+use Rattle.sheet.specs.Struct.{sheetOf, Arrays, readingOf}
+use Rattle.book.specs.declared.TablesRead.{TablesRead}
+use Rattle.book.specs.Answers.{afterRead}
+use Rattle.book.proofs.ReadingAnswers.{gave-refused, gave-done}
+use Rattle.sizes.proofs.SheetRead.{reading-is}
+use Rattle.text.specs.Text.{refusedText, textOrRefused}
+use Rattle.stepping.specs.Lines.{startText, stepText}
+use Rattle.stepdesk.specs.Printed.{opening, lineBy, lineFor}
+use Rattle.stepdesk.specs.Ready.{BothRead}
+
+module _ (sheet book : List ℕ) (t : TablesRead) (is : afterRead t ≡ readOf sheet book) where
+  -- a file is refused
+  start-refused : (r : Refusal) → t .answer ≡ Reply.Refused r
+      → (readSheet sheet then λ s. readBook (s .architecture) book then λ c. proper (startText (s .architecture) c)) ≡ refused r
+  unfolding readOf
+  start-refused r e = by (refused-then (readSheet sheet) (λ s. readBook (s .architecture) book) r (gave-refused _ r (sym (ap (λ (x : AfterRead). x .answer) is) ∙ e)))
+    where
+      by : (readSheet sheet ≡ refused r) ⊎ ((s : model.Sheet) × (readSheet sheet ≡ proper s) × (readBook (s .architecture) book ≡ refused r))
+          → (readSheet sheet then λ s. readBook (s .architecture) book then λ c. proper (startText (s .architecture) c)) ≡ refused r
+      by (inl q) = then-refused _ q
+      by (inr h) = then-read _ (h .1) ∙ then-refused _ (h .2)
+
+  pub opening-refused : (r : Refusal) → t .answer ≡ Reply.Refused r → opening sheet book ≡ refusedText (number r)
+  unfolding opening textOrRefused
+  opening-refused r e = ap textOrRefused (start-refused r e)
+
+  module _ (done : t .answer ≡ Reply.Done) (q : Reading) (read : readingOf q ≡ readSheet sheet) (arrays : Arrays (q .sheet)) where
+    -- both are read
+    pub both-read : BothRead sheet book (q .sheet)
+    unfolding readOf
+    both-read =
+        let d = gave-done _ (sym (ap (λ (x : AfterRead). x .answer) is) ∙ done) in
+        let h = goes-on (readSheet sheet) _ (d .1) in
+        let same : sheetOf (q .sheet) ≡ h .0 = reading-is (q .answer) (q .sheet) (h .0) (read ∙ h .1) in
+        let is-sheet : readSheet sheet ≡ proper (sheetOf (q .sheet)) = h .1 ∙ ap proper (sym same) in
+        record {
+          choice = d .0;
+          is-sheet = is-sheet;
+          is-proper = record { arrays = arrays; proper = sheet-proper sheet (sheetOf (q .sheet)) is-sheet };
+          is-book = subst (λ (s : model.Sheet). readBook (s .architecture) book ≡ proper (d .0)) (sym same) (h .2);
+        }
+
+    -- the tables begin with the choice
+    chosen-is : chosen (architectureOf (q .sheet .architecture)) (t .tables) ≡ both-read .choice
+    unfolding readOf gave
+    chosen-is =
+        let b = both-read in
+        let a = architectureOf (q .sheet .architecture) in
+        let tables : t .tables ≡ tablesOf (b .choice) = ap (λ (x : AfterRead). x .tables) (is ∙ ap gave (then-read _ (b .is-sheet) ∙ b .is-book)) in
+        ap (chosen a) tables ∙ chosen-tables a (b .choice) (read-choice a book (b .choice) (b .is-book) .0 .tables)
+
+    pub are-tables : IsTables (architectureOf (q .sheet .architecture)) (chosen (architectureOf (q .sheet .architecture)) (t .tables))
+    are-tables =
+        let b = both-read in
+        let a = architectureOf (q .sheet .architecture) in
+        subst (IsTables a) (sym chosen-is) (read-choice a book (b .choice) (b .is-book) .0 .tables)
+
+    pub opening-is : opening sheet book ≡ startText (architectureOf (q .sheet .architecture)) (chosen (architectureOf (q .sheet .architecture)) (t .tables))
+    unfolding opening textOrRefused
+    opening-is =
+        let b = both-read in
+        ap textOrRefused (then-read _ (b .is-sheet) ∙ then-read _ (b .is-book)) ∙ ap (startText (architectureOf (q .sheet .architecture))) (sym chosen-is)
+
+-- ---- where both are read
+module _ {sheet book : List ℕ} {s : Sheet} (b : BothRead sheet book s) where
+  -- a fresh desk holds a composed state, and so does a desk after a step
+  pub fresh-holds : (k : Desk) → IsState (architectureOf (s .architecture)) (onDesk (architectureOf (s .architecture)) (freshOf sheet k .desk))
+  fresh-holds k = fresh-state sheet book (sheetOf s) (b .choice) (b .is-sheet) (b .is-book) k
+
+  pub step-holds : (k : Desk) (d : ℕ) → IsState (architectureOf (s .architecture)) (onDesk (architectureOf (s .architecture)) k)
+      → IsState (architectureOf (s .architecture)) (onDesk (architectureOf (s .architecture)) (stepOf sheet book k d .desk))
+  step-holds k d w = still-state sheet book (sheetOf s) (b .choice) (b .is-sheet) (b .is-book) k d w
+
+  -- the line that is due
+  pub line-is : (k : Desk) (d : ℕ) → lineFor sheet book k d ≡ stepText (architectureOf (s .architecture)) d (stepOf sheet book k d)
+  unfolding lineFor lineBy
+  line-is k d = rw (b .is-sheet)

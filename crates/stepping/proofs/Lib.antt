@@ -1,0 +1,3 @@
+-- What the proofs of several functions use, and what is proved of the words.
+pub mod LinesShort
+pub mod WordsHeard
