@@ -5,10 +5,12 @@ ghost use lib.ListN.{length};
 use crate::print;
 use judging::Annotated;
 use layout::TB;
+use model::Desk;
 use model::Finding;
 use model::Outcome;
 use model::Refusal;
 use model::Reply;
+use model::Shown;
 use model::Verdict;
 
 // The front of a line.
@@ -224,4 +226,50 @@ pub fn part(case: &[u8], sheet: &[u8], book: &[u8], process: usize) {
         Reply::Refused(refusal) => refused(refusal),
         Reply::Done => print::bytes(planner::part(sheet, book, process)),
     }
+}
+
+// The rest of a line: the five places of a desk.
+fn places(desk: Desk) {
+    let states = desk.states;
+    print::bytes(
+        &[
+            states[0].0,
+            states[1].0,
+            states[2].0,
+            states[3].0,
+            desk.environment,
+        ],
+    );
+}
+
+// Makes a desk fresh.
+pub fn fresh(case: &[u8], sheet: &[u8], desk: Desk) -> Desk {
+    open(case, b"fresh");
+    let made = planner::fresh(sheet, desk);
+    let answer = made.answer;
+    let after = made.desk;
+    match answer {
+        Reply::Refused(refusal) => refused(refusal),
+        Reply::Done => places(after),
+    }
+    after
+}
+
+// Steps a desk by a direction.
+pub fn step(case: &[u8], sheet: &[u8], book: &[u8], desk: Desk, direction: u8) -> Desk {
+    open(case, b"step");
+    print::hex(direction);
+    let next = planner::step_by_value(sheet, book, desk, direction);
+    let answer = next.answer;
+    let after = next.desk;
+    match answer {
+        Shown::Refused(refusal) => refused(refusal),
+        Shown::Label(label) => {
+            print::text(b" label");
+            print::hex(label);
+            print::text(b" desk");
+            places(after);
+        }
+    }
+    after
 }

@@ -2,6 +2,7 @@
 ghost use Prim.Native.Nat.{_<_};
 
 mod calls;
+mod desks;
 mod print;
 mod prompts;
 mod sheets;
@@ -14,6 +15,7 @@ use calls::find;
 use calls::judge;
 use calls::part;
 use calls::reread;
+use desks::desks;
 use prompts::prompts;
 use sheet::CASE_A;
 use sheets::BOOK_A;
@@ -256,4 +258,5 @@ fn main() {
     prompts();
     case_l();
     paths();
+    desks();
 }

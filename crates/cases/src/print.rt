@@ -14,7 +14,7 @@ pub fn number(n: u64) {
 }
 
 // A space and two hexadecimal digits.
-fn hex(byte: u8) {
+pub fn hex(byte: u8) {
     let high = (byte / 16) as usize;
     let low = (byte % 16) as usize;
     text(&[b' ', DIGITS[high], DIGITS[low]]);

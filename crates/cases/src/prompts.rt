@@ -5,7 +5,7 @@ use super::calls::check_front;
 use super::calls::find;
 
 // Variable 1 is always to be as variable 0, and variable 2 as 1: process 1 reads variable 1, which process 0 sets, promptly.
-const CASE_P: [u8; 60] = *b"\
+pub const CASE_P: [u8; 60] = *b"\
     AR\x03\x01\x00PR\x01\x02\x02PM\x02\x04\x02\x02AU\x02\x00\x02\x00\
     ED\x00\x00\x00\x00ED\x00\x01\x01\x02ED\x00\x01\x02\x01ED\x00\x01\x02\x04ED\x00\x01\x04\x02ED\x01\x01\x00\x00EN";
 
@@ -19,7 +19,7 @@ const CASE_P_DELAYED: [u8; 59] = *b"\
     AR\x03\x01\x00PR\x01\x02\x02PR\x02\x04\x02AU\x02\x00\x02\x00\
     ED\x00\x00\x00\x00ED\x00\x01\x01\x02ED\x00\x01\x02\x01ED\x00\x01\x02\x04ED\x00\x01\x04\x02ED\x01\x01\x00\x00EN";
 
-const BOOK_P: [u8; 30] =
+pub const BOOK_P: [u8; 30] =
     *b"TB\x00\x00\x00\x00\x01TB\x00\x01\x02\x00\x01TB\x01\x00\x00\x00\x01TB\x01\x01\x04\x00\x01EN";
 
 // Variable 3 is to be on exactly in the first step of each time that variable 0 is on. Process 2 reads variable 1 promptly, and variable 2 one step later.
