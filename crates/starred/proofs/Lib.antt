@@ -2,3 +2,4 @@ pub mod CaseA
 pub mod EveryRow
 pub mod EveryExample
 mod EveryRun
+pub mod EveryDesk

@@ -1,3 +1,4 @@
 pub mod Table
 pub mod Examples
 pub mod Runs
+pub mod Desks

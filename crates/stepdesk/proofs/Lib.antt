@@ -1,2 +1,3 @@
--- What the proofs of several functions use.
+-- What the proofs of several functions use, and what is proved of the program.
 mod BothFiles
+pub mod WholeFiles
