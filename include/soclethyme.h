@@ -1,9 +1,10 @@
 /* The library's C interface. Link libexport.a (rt staticlib export).
  *
  * Every call takes bytes and buffers of any length. A result is 0 for proper,
- * tables, written, read, yes and annotated, and 256 for none, no and loop;
- * otherwise it is the number of the refusal (README.md lists them), and every
- * lent buffer then holds what it held before. */
+ * tables, written, read, yes, annotated and fresh, and 256 for none, no and
+ * loop; otherwise it is the number of the refusal (README.md lists them), and
+ * every lent buffer then holds what it held before. A part or a label is a
+ * number from 65536 on. */
 #ifndef SOCLETHYME_H
 #define SOCLETHYME_H
 
@@ -66,6 +67,21 @@ uint32_t soclethyme_annotate(const uint8_t *sheet, size_t sheet_len,
                              uint16_t *annotation, size_t annotation_len,
                              uint8_t *path, size_t path_len,
                              uint32_t *lengths /* 2: stem, cycle */);
+
+/* A desk to try tables on, exactly five bytes: the states of processes 0 to 3,
+ * then the environment mask. Places of processes that the sheet lacks may hold
+ * anything, and no call reads or changes them.
+ * Makes the desk fresh: 0 for each process of the sheet, and the root mask. */
+uint32_t soclethyme_fresh(const uint8_t *sheet, size_t sheet_len,
+                          uint8_t *desk /* 5 */);
+
+/* Moves the desk on by one direction with the tables in the book, and returns
+ * 65536 + the label of the new composed state, or the refusal (a number below
+ * 65536). 14 is a direction, or a mask on the desk, with a bit outside the
+ * environment variables, or a state at or above its process's bound. */
+uint32_t soclethyme_step(const uint8_t *sheet, size_t sheet_len,
+                         const uint8_t *book, size_t book_len,
+                         uint8_t *desk /* 5 */, uint8_t direction);
 
 #ifdef __cplusplus
 }

@@ -1,4 +1,4 @@
--- 02, the second wish: a desk on which tables are stepped, direction by direction. What its two calls answer, and what the desk then holds.
+-- 01, "Public calls": a desk on which tables are stepped, direction by direction. What its two calls answer, and what the desk then holds.
 use mathlib.Core.Bool.{Bool, false, _||_, not}
 use mathlib.Core.List.{List, [], _∷_, _++_, map}
 use Prim.Native.Nat.{ℕ}
