@@ -1,4 +1,5 @@
-/* Finds the tables of case A: the arbiter of two clients, with two states. */
+/* Finds the tables of case A: the arbiter of two clients, with two states. Then
+ * lets judge check them, and steps them on a desk. */
 #include <stdio.h>
 
 #include "soclethyme.h"
@@ -35,5 +36,20 @@ int main(void) {
     /* The book and its annotation, as anybody may check them. */
     answer = soclethyme_judge(sheet, sizeof sheet, book, 20, annotation, 4096);
     puts(answer == 0 ? "judged: yes" : "judged: no");
+    /* On a desk, by three directions. The second one has a bit outside the
+     * environment variables: the desk stays where it was. */
+    static const uint8_t directions[3] = {1, 4, 2};
+    uint8_t desk[5] = {0};
+    soclethyme_fresh(sheet, sizeof sheet, desk);
+    for (int i = 0; i < 3; i++) {
+        answer = soclethyme_step(sheet, sizeof sheet, book, 20, desk,
+                                 directions[i]);
+        printf("direction %02X: ", directions[i]);
+        if (answer < 65536) {
+            printf("refused %u\n", (unsigned)answer);
+        } else {
+            printf("label %02X, state %u\n", (unsigned)answer - 65536, desk[0]);
+        }
+    }
     return 0;
 }

@@ -1,36 +1,36 @@
 -- The test for 14, one part after the other; where it fails, the desk holds a composed state, and the direction is one.
-use mathlib.Core.Path.{_≡_, refl, sym, ap, _∙_}
-use mathlib.Core.Bool.{Bool, true, false, _||_}
+use mathlib.Core.Path.{_≡_}
+use mathlib.Core.Bool.{true, false}
 use mathlib.Core.List.{List, [], _∷_}
 use Prim.Native.Nat.{ℕ, _^_, _<_, _≤_}
 use native.Mathlib.Omega.{arith}
 use lib.ListN.{length}
-use borrow.Author.Tests.{le-leb, leb-false}
-use Rattle.model.specs.Mask.{beyond}
+use borrow.Author.Tests.{leb-false}
 use Rattle.model.specs.Sheet.{Process, Architecture}
 use Rattle.model.specs.Compose.{Composed}
 use Rattle.model.specs.Desk.{tooHigh, deskFault}
 use Rattle.model.proofs.ProperSheet.{or-false, below-bit}
-use Rattle.model.proofs.FaultsExact.{not-beyond}
+use Rattle.model.proofs.FaultsExact.{not-beyond, is-beyond}
 use Rattle.model.proofs.ComposedNumbers.{InBounds, nobody, also-in, IsState}
 
 module _ (a : Architecture) (t : Composed) (d : ℕ) where
+  -- the direction
   pub direction-out : 2 ^ a .environment ≤ d → true ≡ deskFault a t d
-  unfolding deskFault beyond
-  direction-out l = rw (le-leb _ _ l)
+  unfolding deskFault
+  direction-out l = rw (is-beyond d (a .environment) l)
 
   module _ (in-direction : d < 2 ^ a .environment) where
+    -- the mask
     pub mask-out : 2 ^ a .environment ≤ t .environment → true ≡ deskFault a t d
     unfolding deskFault
-    mask-out l = rw (not-beyond d (a .environment) in-direction, is-beyond l)
-      where
-        is-beyond : 2 ^ a .environment ≤ t .environment → beyond (t .environment) (a .environment) ≡ true
-        is-beyond l = le-leb _ _ l
+    mask-out l = rw (not-beyond d (a .environment) in-direction, is-beyond (t .environment) (a .environment) l)
 
+    -- the states
     pub masks-in : t .environment < 2 ^ a .environment → tooHigh (a .processes) (t .states) ≡ deskFault a t d
     unfolding deskFault
     masks-in l = rw (not-beyond d (a .environment) in-direction, not-beyond (t .environment) (a .environment) l)
 
+-- no state is too high
 all-in : (ps : List Process) (xs : List ℕ) → length xs ≡ length ps → tooHigh ps xs ≡ false → InBounds ps xs
 unfolding tooHigh
 all-in [] [] e f = nobody

@@ -1,6 +1,6 @@
 -- Along the places of a desk: one state more is put, and one state more is not too high.
-use mathlib.Core.Path.{_≡_, ap, _∙_}
-use mathlib.Core.Bool.{Bool, false, _||_}
+use mathlib.Core.Path.{_≡_, ap}
+use mathlib.Core.Bool.{_||_}
 use mathlib.Core.List.{List, [], _∷_, _++_}
 use Prim.Native.Nat.{ℕ, zero, suc, _+_, _<_, _≤_}
 use native.Mathlib.Numerals.{add-one}
@@ -22,6 +22,7 @@ put-next (x ∷ xs) [] i r e l m = absurd (omega arith)
 put-next (x ∷ xs) (k ∷ ks) zero r e l m = ap (λ (n : ℕ). record { 0 = n } ∷ ks) e
 put-next (x ∷ xs) (k ∷ ks) (suc i) r e l m = ap (λ (ys : List ProcessState). record { 0 = x } ∷ ys) (put-next xs ks i r e (omega arith) (omega arith))
 
+-- one place more
 pub put-turn : (xs : List ℕ) (ks states : List ProcessState) (i : ℕ) (r : ProcessState) → r .0 ≡ getD xs i 0 → i < length xs → i < length ks
     → states ≡ processStates (take i xs) ++ drop i ks → set states i r ≡ processStates (take (i + 1) xs) ++ drop (i + 1) ks
 put-turn xs ks states i r e l m inv = rw (inv, add-one i) (put-next xs ks i r e l m)

@@ -1,5 +1,5 @@
 -- A step of tables with a choice at the front, on a desk of four places: what is answered is the step of the choice.
-use mathlib.Core.Path.{_≡_, refl, sym, ap, ap₂, _∙_, subst}
+use mathlib.Core.Path.{_≡_, sym, ap, _∙_}
 use mathlib.Core.Bool.{Bool, true, false}
 use mathlib.Core.List.{List}
 use Prim.Native.Nat.{ℕ, _^_, _<_, _≤_}
@@ -34,6 +34,7 @@ module _ (a : Architecture) (z : IsProper a) (tables : List ℕ) (f : IsTables (
   abbrev now-on : compose.Composed
   now-on = composedOf (a .processes) t
 
+  -- both are one
   on-desk : onDesk (architectureOf a) k ≡ now-on
   unfolding onDesk architectureOf
   on-desk = ap (λ (n : ℕ). record { environment = k .environment; states = take n (numbers (k .states)) }) (processes-length (a .processes) (processIn a))
@@ -45,20 +46,24 @@ module _ (a : Architecture) (z : IsProper a) (tables : List ℕ) (f : IsTables (
   abbrev answer-due : Stepped
   answer-due = due (deskFault (architectureOf a) (onDesk (architectureOf a) k) d)
 
+  -- by the test's outcome
   tested : {b : Bool} → deskFault (architectureOf a) now-on d ≡ b → due b ≡ answer-due
   tested e = ap due (sym e ∙ ap (λ (u : compose.Composed). deskFault (architectureOf a) u d) (sym on-desk))
 
+  -- 14
   pub refused-due : deskFault (architectureOf a) now-on d ≡ true → record { answer = Shown.Refused BadDirectionOrDesk; desk = k } ≡ answer-due
   unfolding stepBy refuse_when_else_
   refused-due e = tested e
 
   module _ (fits : deskFault (architectureOf a) now-on d ≡ false) where
+    -- nothing misfits: a composed state, and a direction
     faults : model.IsState (architectureOf a) now-on × (d < 2 ^ a .environment)
     unfolding architectureOf
     faults =
         let few : a .processes ≤ length (numbers (k .states)) = omega (arith, facts z .few-processes, long, length-map (k .states) (λ (x : ProcessState). x .0)) in
         faultless (architectureOf a) now-on d (length-take-le (a .processes) (numbers (k .states)) few ∙ sym (processes-length (a .processes) (processIn a))) fits
 
+    -- so the struct may be stepped
     pub is-state : IsState a t
     is-state = state-back a t (facts z .few-processes) (length-map (k .states) (λ (x : ProcessState). x .0) ∙ long) (faults .0)
 
@@ -67,9 +72,11 @@ module _ (a : Architecture) (z : IsProper a) (tables : List ℕ) (f : IsTables (
       steps : composedOf (a .processes) u ≡ compose.step (architectureOf a) (chosen (architectureOf a) tables) now-on d
       steps = e ∙ step-chosen (architectureOf a) tables f now-on (faults .0) d
 
+      -- and leads to a composed state
       pub new-state : IsState a u
       new-state = step-state a z t (chosen (architectureOf a) tables) d f is-state (faults .1) u u-long steps
 
+      -- its label and the desk are those due
       pub step-due : record { answer = Shown.Label (compose.label (architectureOf a) tables (composedOf (a .processes) u)); desk = showing k (composedOf (a .processes) u) } ≡ answer-due
       unfolding stepBy refuse_when_else_
       step-due =

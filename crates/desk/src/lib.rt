@@ -1,6 +1,5 @@
 // A desk to step the tables, once the sheet is read: made fresh, and moved on by one direction.
 ghost use mathlib.Core.Path.{_≡_};
-ghost use lib.ListN.{length};
 ghost use Rattle.model.specs.declared.Refusal.the-variants.{BadDirectionOrDesk};
 ghost use Rattle.model.specs.declared.Shown.{Shown as Answered};
 ghost use Rattle.model.specs.Reading.{refuse_when_else_, proper};
@@ -8,7 +7,7 @@ ghost use Rattle.model.specs.Compose.{initial};
 ghost use Rattle.model.specs.Choice.{IsTables, chosen};
 ghost use Rattle.model.specs.Desk as model;
 ghost use Rattle.architecture.specs.Struct.{IsProper, architectureOf, processesIn};
-ghost use Rattle.composition.specs.Struct.{numbers, composedOf};
+ghost use Rattle.composition.specs.Struct.{composedOf};
 use architecture::Architecture;
 use composition::Composed;
 use model::Desk;

@@ -1,6 +1,6 @@
 -- A step on a desk is refused exactly as its definition of refusals says; a refusal, of a desk to be made fresh too, leaves the desk.
 use mathlib.Core.Path.{_≡_, refl, sym, ap, _∙_, subst}
-use mathlib.Core.Bool.{Bool, true, false, true≢false}
+use mathlib.Core.Bool.{true, false, true≢false}
 use mathlib.Core.Logic.{_⊎_, inl, inr, _↔_, ⊎-elim}
 use mathlib.Core.List.{List, [], _∷_}
 use mathlib.Core.Option.{some}
@@ -22,8 +22,9 @@ use Rattle.model.specs.Reading.{Reading, refused, proper, readSheet}
 use Rattle.model.specs.Book.{readBook}
 use Rattle.model.specs.Calls.{reply, checkOf}
 use Rattle.model.specs.Desk.{numbers, onDesk, freshIn, freshOf, tooHigh, deskFault, choiceFor, stepBy, stepIn, stepOf}
-use Rattle.model.specs.Refusals.{BookRefused, Misfits, direction-out, mask-out, state-out, StepRefused}
-use Rattle.model.proofs.Refusing.{stop, refused≢proper, same-refused, refused-when, refused-then, then-refused, then-read}
+use Rattle.model.specs.Refusals.{Misfits, direction-out, mask-out, state-out, StepRefused}
+use Rattle.model.proofs.Refusing.{stop, refused≢proper, refused-when, refused-then, then-refused, then-read}
+use Rattle.model.proofs.FaultsExact.{is-beyond}
 use Rattle.model.proofs.BookRead.{choice-formed, choice-read, read-choice, book-refused, refused-book}
 
 -- ---- 14
@@ -36,6 +37,7 @@ pub record Above (ps : List Process) (xs : List ProcessState) : Type 0 where
   pub its-state : getElem? xs at ≡ some state
   pub above : process .bound ≤ state .0
 
+-- the test finds it, and finds nothing else
 high-tests : (ps : List Process) (xs : List ProcessState) → tooHigh ps (take (length ps) (numbers xs)) ≡ true → Above ps xs
 unfolding tooHigh
 high-tests [] xs e = absurd (true≢false (sym e))
@@ -56,6 +58,7 @@ tests-high (q ∷ ps) (y ∷ xs) zero {p} {x} e f l =
     or-is (leb (q .bound) (y .0)) _ .1 (inl (le-leb (q .bound) (y .0) (rw (same, there) l)))
 tests-high (q ∷ ps) (y ∷ xs) (suc i) e f l = or-is (leb (q .bound) (y .0)) _ .1 (inr (tests-high ps xs i e f l))
 
+-- 14 as a test and as a condition
 misfit-tests : (a : Architecture) (k : Desk) (d : ℕ) → deskFault a (onDesk a k) d ≡ true → Misfits a k d
 unfolding deskFault onDesk beyond
 misfit-tests a k d e = ⊎-elim
@@ -67,9 +70,9 @@ misfit-tests a k d e = ⊎-elim
     (or-is (beyond d (a .environment)) _ .0 e)
 
 tests-misfit : (a : Architecture) (k : Desk) (d : ℕ) → Misfits a k d → deskFault a (onDesk a k) d ≡ true
-unfolding deskFault onDesk beyond
-tests-misfit a k d (direction-out l) = or-is (beyond d (a .environment)) _ .1 (inl (le-leb _ _ l))
-tests-misfit a k d (mask-out l) = or-is (beyond d (a .environment)) _ .1 (inr (or-is (beyond (k .environment) (a .environment)) _ .1 (inl (le-leb _ _ l))))
+unfolding deskFault onDesk
+tests-misfit a k d (direction-out l) = or-is (beyond d (a .environment)) _ .1 (inl (is-beyond d (a .environment) l))
+tests-misfit a k d (mask-out l) = or-is (beyond d (a .environment)) _ .1 (inr (or-is (beyond (k .environment) (a .environment)) _ .1 (inl (is-beyond (k .environment) (a .environment) l))))
 tests-misfit a k d (state-out i p x e f l) =
     or-is (beyond d (a .environment)) _ .1 (inr (or-is (beyond (k .environment) (a .environment)) _ .1 (inr (tests-high (a .processes) (k .states) i e f l))))
 

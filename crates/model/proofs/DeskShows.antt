@@ -30,12 +30,14 @@ use Rattle.model.proofs.BookRead.{read-choice}
 use Rattle.model.proofs.ComposedNumbers.{InBounds, nobody, also-in, IsState, initial-in, step-in}
 
 -- ---- what is put on a desk is on it, and behind it the desk is as before
+-- n states in front
 filled : (n : ℕ) (ys : List ℕ) (xs : List ProcessState) → length ys ≡ n → take n (numbers (processStates ys ++ xs)) ≡ ys
 filled zero [] xs e = refl
 filled zero (y ∷ ys) xs e = absurd (omega arith)
 filled (suc n) [] xs e = absurd (omega arith)
 filled (suc n) (y ∷ ys) xs e = ap (λ (l : List ℕ). y ∷ l) (filled n ys xs (omega arith))
 
+-- as many as there were
 refilled : (n : ℕ) (ys : List ℕ) (xs : List ProcessState) → length ys ≡ length (take n (numbers xs)) → take n (numbers (processStates ys ++ drop (length ys) xs)) ≡ ys
 refilled zero [] xs e = refl
 refilled zero (y ∷ ys) xs e = absurd (omega arith)
@@ -44,6 +46,7 @@ refilled (suc n) (y ∷ ys) [] e = absurd (omega arith)
 refilled (suc n) [] (x ∷ xs) e = absurd (omega arith)
 refilled (suc n) (y ∷ ys) (x ∷ xs) e = ap (λ (l : List ℕ). y ∷ l) (refilled n ys xs (omega arith))
 
+-- and the rest
 behind : (n : ℕ) (ys : List ℕ) (xs : List ProcessState) → length ys ≡ n → drop n (processStates ys ++ xs) ≡ xs
 behind zero [] xs e = refl
 behind zero (y ∷ ys) xs e = absurd (omega arith)
@@ -58,10 +61,12 @@ shown-last k t u e =
     (behind (length (u .states)) (t .states) (drop (length (t .states)) (k .states)) e ∙ ap (λ (n : ℕ). drop n (k .states)) e)
 
 -- ---- a composed state has no fault
+-- a state for each process
 in-length : {ps : List Process} {xs : List ℕ} → InBounds ps xs → length xs ≡ length ps
 in-length nobody = refl
 in-length (also-in l h) = ap suc (in-length h)
 
+-- and none is too high
 none-high : {ps : List Process} {xs : List ℕ} → InBounds ps xs → tooHigh ps xs ≡ false
 unfolding tooHigh
 none-high nobody = refl
@@ -94,6 +99,7 @@ module _ (sheet book : List ℕ) (s : Sheet) (c : List ℕ) (is-proper : readShe
   weighed k d = ap (λ (m : Reading Sheet). stepIn m book k d) is-proper ∙ ap (λ (m : Reading (List ℕ)). stepBy a m k d) (then-read _ is-book)
 
   -- ---- any desk: what it shows is all that counts
+  -- the answer, and the composed state then, where a fault is found or not
   answerOf : Bool → Composed → ℕ → Shown
   answerOf true t d = Shown.Refused BadDirectionOrDesk
   answerOf false t d = Shown.Label (label a c (step a c t d))
@@ -102,6 +108,7 @@ module _ (sheet book : List ℕ) (s : Sheet) (c : List ℕ) (is-proper : readShe
   stateOf true t d = t
   stateOf false t d = step a c t d
 
+  -- the new composed state is on the desk
   moved : (k : Desk) (d : ℕ) → let t = step a c (onDesk a k) d in onDesk a (showing k t) ≡ t
   unfolding onDesk showing step
   moved k d =
@@ -109,6 +116,7 @@ module _ (sheet book : List ℕ) (s : Sheet) (c : List ℕ) (is-proper : readShe
       let long = moves-long (a .processes) 0 c _ 0 (take n (numbers (k .states))) (omega (arith, length-take n (numbers (k .states)))) in
       ap (λ (xs : List ℕ). record { environment = d; states = xs }) (refilled n _ (k .states) long)
 
+  -- of a desk a step looks at the composed state alone
   counts : (k : Desk) (d : ℕ) → let f = deskFault a (onDesk a k) d in
       (stepOf sheet book k d .answer ≡ answerOf f (onDesk a k) d) × (onDesk a (stepOf sheet book k d .desk) ≡ stateOf f (onDesk a k) d)
   unfolding stepBy refuse_when_else_ answerOf stateOf
@@ -119,6 +127,7 @@ module _ (sheet book : List ℕ) (s : Sheet) (c : List ℕ) (is-proper : readShe
       by true = (refl, refl)
       by false = (refl, moved k d)
 
+  -- so where two agree, they agree along a row of directions
   agreeing : (k k′ : Desk) (ds : List ℕ) → onDesk a k ≡ onDesk a k′
       → (answers sheet book k ds ≡ answers sheet book k′ ds) × (onDesk a (deskAfter sheet book k ds) ≡ onDesk a (deskAfter sheet book k′ ds))
   unfolding answers deskAfter
@@ -130,9 +139,11 @@ module _ (sheet book : List ℕ) (s : Sheet) (c : List ℕ) (is-proper : readShe
       (ap₂ (λ (x : Shown) (xs : List Shown). x ∷ xs) (one .0 ∙ ap (λ (t : Composed). answerOf (deskFault a t d) t d) e ∙ sym (other .0)) (rest .0), rest .1)
 
   -- ---- a desk that holds a composed state
+  -- the book has tables
   tables : IsTables a c
   tables = read-choice a book c is-book .0 .tables
 
+  -- a composed state that is put on a desk is the one on it
   held : (k : Desk) (t : Composed) → IsState a t → onDesk a (showing k t) ≡ t
   unfolding onDesk showing
   held k t w = ap (λ (xs : List ℕ). record { environment = t .environment; states = xs }) (filled (length (a .processes)) (t .states) _ (in-length (w .states-in)))
@@ -141,6 +152,7 @@ module _ (sheet book : List ℕ) (s : Sheet) (c : List ℕ) (is-proper : readShe
   due : Bool → Desk → Composed → ℕ → Stepped
   due f k t d = record { answer = answerOf f t d; desk = showing k (stateOf f t d) }
 
+  -- a step of such a desk
   one-step : (k : Desk) (t : Composed) (d : ℕ) → IsState a t → (f : Bool) → beyond d (a .environment) ≡ f → stepOf sheet book (showing k t) d ≡ due f k t d
   unfolding stepBy refuse_when_else_ answerOf stateOf due
   one-step k t d w f e =
@@ -172,6 +184,7 @@ module _ (sheet book : List ℕ) (s : Sheet) (c : List ℕ) (is-proper : readShe
     pub labels : answers sheet book (showing k t) ds ≡ dueFrom a c t ds
     pub is-state : IsState a (after a c t (possible a ds))
 
+  -- by one direction after the other
   holding : (k : Desk) (t : Composed) (ds : List ℕ) → IsState a t → Holds k t ds
   unfolding deskAfter answers after possible filter put dueFrom if due answerOf stateOf
   holding k t [] w = record { whole = refl; labels = refl; is-state = w }
@@ -197,23 +210,29 @@ module _ (sheet book : List ℕ) (s : Sheet) (c : List ℕ) (is-proper : readShe
           }
 
   -- ---- a desk that was made fresh
+  -- it has the initial composed state on it
   fresh-is : (k : Desk) → freshOf sheet k ≡ record { answer = Reply.Done; desk = showing k (initial a) }
   unfolding freshOf freshIn
   fresh-is k = ap (λ (m : Reading Sheet). freshIn m k) is-proper
 
+  -- which is a composed state
   starts : IsState a (initial a)
   starts = initial-in a (sheet-proper sheet s is-proper .architecture)
 
+  -- so it holds one
   pub fresh-state : (k : Desk) → IsState a (onDesk a (freshOf sheet k .desk))
   fresh-state k = subst (IsState a) (sym (ap (λ (x : FreshDesk). onDesk a (x .desk)) (fresh-is k) ∙ held k (initial a) starts)) starts
 
   module _ (k : Desk) (ds : List ℕ) where
+    -- along a row of directions from there
     from-fresh : Holds k (initial a) ds
     from-fresh = holding k (initial a) ds starts
 
+    -- the whole desk
     holds-fresh : deskAfter sheet book (freshOf sheet k .desk) ds ≡ showing k (after a c (initial a) (possible a ds))
     holds-fresh = ap (λ (x : FreshDesk). deskAfter sheet book (x .desk) ds) (fresh-is k) ∙ from-fresh .whole
 
+    -- its other places
     others-left : let n = length (a .processes) in drop n (deskAfter sheet book (freshOf sheet k .desk) ds .states) ≡ drop n (k .states)
     unfolding showing
     others-left =
@@ -222,6 +241,7 @@ module _ (sheet book : List ℕ) (s : Sheet) (c : List ℕ) (is-proper : readShe
         let long = in-length (from-fresh .is-state .states-in) in
         ap (λ (x : Desk). drop n (x .states)) holds-fresh ∙ behind n (u .states) (drop (length (u .states)) (k .states)) long ∙ ap (λ (m : ℕ). drop m (k .states)) long
 
+  -- all of the promise
   pub desk-shows : desk sheet book s c is-proper is-book
   desk-shows = record {
     made-fresh = fresh-is;

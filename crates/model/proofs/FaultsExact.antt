@@ -5,7 +5,7 @@ use mathlib.Core.List.{List, [], _∷_, _++_, List·Memᴰ, List·Memᴰ·head, 
 use Prim.Native.Nat.{ℕ, _-_, _^_, _≤_, _<_}
 use native.Mathlib.Omega.{arith}
 use lib.Dec.{eqb}
-use borrow.Author.Tests.{le-ltb, lt-leb, ne-eqb, eq-eqb}
+use borrow.Author.Tests.{le-ltb, lt-leb, le-leb, ne-eqb, eq-eqb}
 use Rattle.theory.specs.Lists.{Pairwise, before, all, from}
 use Rattle.theory.proofs.ListLaws.{all-is, from-least, turn-last}
 use Rattle.model.specs.Mask.{beyond, count}
@@ -23,6 +23,11 @@ or-off p q = rw p q
 pub not-beyond : (m n : ℕ) → m < 2 ^ n → beyond m n ≡ false
 unfolding beyond
 not-beyond m n l = lt-leb (2 ^ n) m l
+
+-- and any other has one
+pub is-beyond : (m n : ℕ) → 2 ^ n ≤ m → beyond m n ≡ true
+unfolding beyond
+is-beyond m n l = le-leb (2 ^ n) m l
 
 -- AR
 pub opening-faultless : (a : Architecture) → ProperFront a → arFault a ≡ false

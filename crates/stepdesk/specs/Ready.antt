@@ -2,7 +2,6 @@
 use mathlib.Core.Path.{_≡_}
 use mathlib.Core.List.{List}
 use Prim.Native.Nat.{ℕ, _^_, _<_}
-use Rattle.model.specs.declared.Desk.{Desk}
 use Rattle.model.specs.Reading.{proper, readSheet}
 use Rattle.model.specs.Book.{readBook}
 use Rattle.model.specs.Desk.{onDesk}

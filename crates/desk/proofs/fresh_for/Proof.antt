@@ -1,5 +1,5 @@
 -- `desk::fresh_for` meets its contract.
-use mathlib.Core.Path.{_≡_, ap, _∙_}
+use mathlib.Core.Path.{ap, _∙_}
 use borrow.Author.Needs.{needs}
 use Rattle.model.specs.Compose.{Composed}
 use Rattle.model.specs.Desk.{showing}

@@ -1,11 +1,10 @@
 -- `desk::is_too_high` meets its contract. The invariant: what is left to test decides.
 use mathlib.Core.Path.{_≡_, refl, sym, _∙_}
-use mathlib.Core.Bool.{Bool, true, false, _||_}
-use Prim.Native.Nat.{ℕ, _+_, _-_, _≤_, _<_}
+use mathlib.Core.Bool.{_||_}
+use Prim.Native.Nat.{_+_, _-_, _≤_}
 use native.Mathlib.Omega.{arith}
 use lib.Dec.{leb}
-use lib.ListN.{length, getD, take, drop, length-map, drop-of-length-le}
-use lib.Seq.{length-take-le}
+use lib.ListN.{length, take, drop, length-map}
 use borrow.Author.Needs.{needs}
 use borrow.Author.Tests.{le-leb, lt-leb}
 use Rattle.model.specs.declared.ProcessState.{ProcessState}
@@ -47,7 +46,8 @@ next : (c : tie.After-struct-known2 Inv-loop μ-loop) → let b = head (turn c) 
 next c =
     let h = head (turn c) in
     let b = h .before in
-    high-turn (processIn (b .args .a)) (b .args .a .processes) (h .loop .i) (turn c .if1 .taken) (numbers (b .args .t .states)) (all-long b) _ _ (c .before .bound-of .ensures) (c .before .before .process-state .ensures)
+    high-turn (processIn (b .args .a)) (b .args .a .processes) (h .loop .i) (turn c .if1 .taken) (numbers (b .args .t .states)) (all-long b) _ _
+    (c .before .bound-of .ensures) (c .before .before .process-state .ensures)
     ∙ h .loop .inv .1
 
 -- `while i < a.processes`

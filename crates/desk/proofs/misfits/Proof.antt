@@ -1,6 +1,5 @@
 -- `desk::misfits` meets its contract: the direction, the mask, and then the states.
-use mathlib.Core.Path.{_≡_, _∙_}
-use Prim.Native.Nat.{_≤_, _<_}
+use mathlib.Core.Path.{_∙_}
 use native.Mathlib.Omega.{arith}
 use borrow.Author.Needs.{needs}
 use Rattle.architecture.specs.Struct.{architectureOf}

@@ -1,11 +1,10 @@
 -- `desk::showing` meets its contract. The invariant: the first i places are put, and the others are as they were.
-use mathlib.Core.Path.{_≡_, refl, sym, ap, ap₂, _∙_}
+use mathlib.Core.Path.{_≡_, refl, sym, ap, _∙_}
 use mathlib.Core.List.{List, _++_}
 use Prim.Native.Nat.{ℕ, _-_, _≤_}
 use native.Mathlib.Omega.{arith}
 use lib.ListN.{length, take, drop, length-map}
 use lib.Seq.{length-take-le}
-use borrow.Author.Needs.{needs}
 use Rattle.model.specs.declared.ProcessState.{ProcessState}
 use Rattle.model.specs.Desk.{numbers, processStates, showing}
 use Rattle.architecture.proofs.ProcessesOfArrays.{facts}

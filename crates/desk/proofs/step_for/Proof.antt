@@ -1,5 +1,5 @@
 -- `desk::step_for` meets its contract: a book that is refused says so, and of one that is read the choice is at the front of the tables that are stepped.
-use mathlib.Core.Path.{_≡_, _∙_}
+use mathlib.Core.Path.{_≡_}
 use borrow.Author.Needs.{needs}
 use Rattle.model.specs.declared.Reply.{Reply}
 use Rattle.model.specs.Reading.{_then_}

@@ -53,7 +53,8 @@ label-requires : tie.Need-label-requires
 label-requires c κs =
     let m = c .before .before in
     let b = entry m in
-    let next = new-state (b .args .a) (b .pre .0) (b .args .tables .now) (b .pre .1) (b .args .desk) (long b) (b .args .direction) (fits (c .before)) (c .step .result) (c .step .ensures .1) (c .step .ensures .0) in
+    let next = new-state (b .args .a) (b .pre .0) (b .args .tables .now) (b .pre .1) (b .args .desk) (long b) (b .args .direction) (fits (c .before)) (c .step .result)
+    (c .step .ensures .1) (c .step .ensures .0) in
     (b .pre .0, (next .states-in, chosen-long (architectureOf (b .args .a)) (b .args .tables .now) (b .pre .1)))
 
 -- `desk: showing(a, desk, next)`
@@ -66,7 +67,8 @@ returns-2 c =
     let s = c .before .before in
     let b = entry (s .before .before) in
     ap₂ (λ (l : ℕ) (k : Desk). record { answer = Shown.Label l; desk = k }) (c .before .label .ensures) (c .showing .ensures)
-    ∙ step-due (b .args .a) (b .pre .0) (b .args .tables .now) (b .pre .1) (b .args .desk) (long b) (b .args .direction) (fits (s .before)) (s .step .result) (s .step .ensures .1) (s .step .ensures .0)
+    ∙ step-due (b .args .a) (b .pre .0) (b .args .tables .now) (b .pre .1) (b .args .desk) (long b) (b .args .direction) (fits (s .before)) (s .step .result)
+    (s .step .ensures .1) (s .step .ensures .0)
 
 pub step-tables-spec : {M : Type 1} → statement M
 step-tables-spec = tie.close (tie.spec misfits-requires refused-requires returns step-requires label-requires showing-requires returns-2)

@@ -1,5 +1,5 @@
 -- `export::shown_code` meets its contract.
-use mathlib.Core.Path.{_≡_, sym, ap}
+use mathlib.Core.Path.{sym, ap}
 use borrow.Author.Needs.{needs}
 use Rattle.model.specs.Numbers.{shownCode}
 use Rattle.export.proofs.shown_code.Statement.{statement}

@@ -1,5 +1,5 @@
 -- `planner::fresh` meets its contract: the sheet is read, and then the desk made fresh.
-use mathlib.Core.Path.{_≡_, ap}
+use mathlib.Core.Path.{ap}
 use borrow.Author.Needs.{needs}
 use Rattle.model.specs.declared.Desk.{Desk}
 use Rattle.model.specs.declared.Reply.{Reply}

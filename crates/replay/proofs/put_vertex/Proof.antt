@@ -1,6 +1,5 @@
 -- `replay::put_vertex` meets its contract: automaton state, label and states. The label is that of the choice.
 use mathlib.Core.Path.{_≡_, _∙_}
-use Prim.Native.Nat.{ℕ}
 use borrow.Author.Needs.{needs}
 use Rattle.model.specs.Compose.{label}
 use Rattle.model.specs.Choice.{chosen}

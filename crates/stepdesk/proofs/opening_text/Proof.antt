@@ -1,5 +1,4 @@
 -- `stepdesk::opening_text` meets its contract: a file is refused, or both are read, and the start is that of the book's choice.
-use native.Mathlib.Omega.{arith}
 use borrow.Author.Needs.{needs}
 use Rattle.sheet.proofs.AnswersOfReading.{architecture-proper}
 use Rattle.stepdesk.proofs.BothFiles.{opening-refused, both-read, are-tables, opening-is}
@@ -43,8 +42,10 @@ start-text-requires c κs =
     let b = entry r in
     let sheet = b .args .sheet .now in
     let book = b .args .book .now in
-    let both = both-read sheet book (r .read .result) (r .read .ensures) (t .enum-told .given .1) (q .read2 .result) (q .read2 .ensures .0) (q .read2 .ensures .1) in
-    (b .pre, (architecture-proper _ (both .is-proper), are-tables sheet book (r .read .result) (r .read .ensures) (t .enum-told .given .1) (q .read2 .result) (q .read2 .ensures .0) (q .read2 .ensures .1)))
+    let e = t .enum-told .given .1 in
+    let both = both-read sheet book (r .read .result) (r .read .ensures) e (q .read2 .result) (q .read2 .ensures .0) (q .read2 .ensures .1) in
+    let tables = are-tables sheet book (r .read .result) (r .read .ensures) e (q .read2 .result) (q .read2 .ensures .0) (q .read2 .ensures .1) in
+    (b .pre, (architecture-proper _ (both .is-proper), tables))
 
 -- `match answer`
 same-length : tie.Need-same-length
@@ -71,7 +72,8 @@ returns-2 c =
     let t = q .before .before in
     let r = t .before .before in
     let b = entry r in
-    rw (opening-is (b .args .sheet .now) (b .args .book .now) (r .read .result) (r .read .ensures) (t .enum-told .given .1) (q .read2 .result) (q .read2 .ensures .0) (q .read2 .ensures .1)) (x .start-text .ensures)
+    let e = t .enum-told .given .1 in
+    rw (opening-is (b .args .sheet .now) (b .args .book .now) (r .read .result) (r .read .ensures) e (q .read2 .result) (q .read2 .ensures .0) (q .read2 .ensures .1)) (x .start-text .ensures)
 
 pub opening-text-spec : {M : Type 1} → statement M
 opening-text-spec =

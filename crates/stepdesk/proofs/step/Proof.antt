@@ -1,6 +1,5 @@
 -- `stepdesk::step` meets its contract, and what it writes is the line that is due.
-use mathlib.Core.Path.{_≡_, sym, ap, _∙_, subst}
-use Prim.Native.Nat.{_≤_}
+use mathlib.Core.Path.{sym, ap, _∙_, subst}
 use native.Mathlib.Omega.{arith}
 use borrow.Author.Needs.{needs}
 use Rattle.model.specs.declared.Stepped.{Stepped}
@@ -10,7 +9,6 @@ use Rattle.architecture.specs.Struct.{architectureOf}
 use Rattle.sheet.proofs.AnswersOfReading.{architecture-proper}
 use Rattle.template.proofs.FilledShort.{text-length}
 use Rattle.stepping.specs.Lines.{stepText}
-use Rattle.stepdesk.specs.Ready.{Ready}
 use Rattle.stepdesk.proofs.BothFiles.{step-holds, line-is}
 use Rattle.stepdesk.proofs.step.Statement.{statement}
 use Rattle.stepdesk.proofs.step.Tie as tie
@@ -55,7 +53,8 @@ put-line-requires c κs =
     let s = t .before .before .before in
     let b = entry s in
     let a = architectureOf (b .args .read .architecture) in
-    t .step-text .ensures .is ∙ ap (λ (x : Stepped). stepText a (b .args .session .word .value) x) (s .step-by-value .ensures) ∙ sym (line-is (b .pre .both) (b .args .session .desk) (b .args .session .word .value))
+    let d = b .args .session .word .value in
+    t .step-text .ensures .is ∙ ap (λ (x : Stepped). stepText a d x) (s .step-by-value .ensures) ∙ sym (line-is (b .pre .both) (b .args .session .desk) d)
 
 -- `word: stepping::no_word()`
 no-word-requires : tie.Need-no-word-requires

@@ -1,12 +1,11 @@
 -- `stepdesk::step_all` is safe: a fresh desk holds a composed state.
-use mathlib.Core.Path.{_≡_, sym, subst}
+use mathlib.Core.Path.{sym, subst}
 use native.Mathlib.Omega.{arith}
 use borrow.Author.Needs.{needs}
 use Rattle.model.specs.declared.FreshDesk.{FreshDesk}
 use Rattle.model.specs.Desk.{onDesk}
 use Rattle.model.proofs.ComposedNumbers.{IsState}
 use Rattle.architecture.specs.Struct.{architectureOf}
-use Rattle.stepdesk.specs.Ready.{Ready}
 use Rattle.stepdesk.proofs.BothFiles.{fresh-holds}
 use Rattle.stepdesk.proofs.step_all.Statement.{statement}
 use Rattle.stepdesk.proofs.step_all.Tie as tie

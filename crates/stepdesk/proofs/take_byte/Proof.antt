@@ -1,6 +1,5 @@
 -- `stepdesk::take_byte` meets its contract.
 use borrow.Author.Needs.{needs}
-use Rattle.stepdesk.specs.Ready.{Ready}
 use Rattle.stepdesk.proofs.take_byte.Statement.{statement}
 use Rattle.stepdesk.proofs.take_byte.Tie as tie
 

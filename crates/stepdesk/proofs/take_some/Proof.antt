@@ -1,5 +1,5 @@
 -- `stepdesk::take_some` meets its contract.
-use mathlib.Core.Path.{_≡_, sym, subst}
+use mathlib.Core.Path.{sym, subst}
 use borrow.Author.Needs.{needs}
 use Rattle.stepdesk.specs.declared.Session.{Session}
 use Rattle.stepdesk.specs.Ready.{Ready}

@@ -1,11 +1,10 @@
 -- `stepping::extended` meets its contract: a byte that is no digit, or one digit more.
-use mathlib.Core.Path.{_≡_, refl, sym, ap, _∙_}
-use Prim.Native.Nat.{ℕ, _<_, _≤_}
+use mathlib.Core.Path.{refl, sym, _∙_}
 use native.Mathlib.Omega.{arith}
 use borrow.Author.Needs.{needs}
 use borrow.Author.Tests.{eq-eqb, ne-eqb}
 use Rattle.model.specs.Mask.{if}
-use Rattle.stepping.specs.Words.{noDirection, extended}
+use Rattle.stepping.specs.Words.{extended}
 use Rattle.stepping.proofs.extended.Statement.{statement}
 use Rattle.stepping.proofs.extended.Tie as tie
 

@@ -1,11 +1,11 @@
 -- `stepping::longer` meets its contract: a word of fewer than two digits has room for one more.
-use mathlib.Core.Path.{_≡_, refl, sym, ap, _∙_}
-use Prim.Native.Nat.{ℕ, _^_, _<_, _≤_}
+use mathlib.Core.Path.{refl}
+use Prim.Native.Nat.{_<_}
 use native.Mathlib.Omega.{arith}
 use borrow.Author.Needs.{needs}
 use borrow.Author.Tests.{lt-ltb, le-ltb}
 use Rattle.model.specs.Mask.{if}
-use Rattle.stepping.specs.Words.{noDirection, longer}
+use Rattle.stepping.specs.Words.{longer}
 use Rattle.stepping.proofs.WordsHeard.{one-digit, digit-more}
 use Rattle.stepping.proofs.longer.Statement.{statement}
 use Rattle.stepping.proofs.longer.Tie as tie

@@ -1,7 +1,7 @@
 -- `stepping::start_text` meets its contract: there is room for the line of the initial composed state, and its label is that of the choice.
-use mathlib.Core.Path.{_≡_, ap, ap₂, _∙_}
+use mathlib.Core.Path.{_≡_, ap, _∙_}
 use mathlib.Core.List.{List, [], _∷_}
-use Prim.Native.Nat.{ℕ, _<_, _≤_}
+use Prim.Native.Nat.{ℕ, _≤_}
 use native.Mathlib.Omega.{arith}
 use lib.ListN.{length, take}
 use borrow.Author.Needs.{needs}
@@ -9,7 +9,6 @@ use Rattle.model.specs.Ascii.{ascii}
 use Rattle.model.specs.Compose as compose
 use Rattle.model.specs.Compose.{label, initial}
 use Rattle.model.specs.Choice.{chosen}
-use Rattle.model.proofs.ComposedNumbers.{initial-in}
 use Rattle.architecture.specs.Struct.{architectureOf}
 use Rattle.architecture.proofs.ProcessesOfArrays.{facts}
 use Rattle.composition.specs.Struct.{numbers, composedOf}

@@ -1,7 +1,7 @@
 -- `stepping::step_text` meets its contract: there is room for the line of a refusal and for that of a composed state.
 use mathlib.Core.Path.{_≡_, sym, ap, _∙_}
 use mathlib.Core.List.{List, [], _∷_}
-use Prim.Native.Nat.{ℕ, _<_, _≤_}
+use Prim.Native.Nat.{ℕ, _^_, _<_, _≤_}
 use native.Mathlib.Omega.{arith}
 use lib.ListN.{length, take, length-map}
 use borrow.Author.Needs.{needs}
@@ -33,7 +33,10 @@ module _ (c : tie.After-number) where
 
   refusal-short : length refusal ≤ 64
   unfolding longest
-  refusal-short = omega (arith, filled-short 9 (ascii "direction % refused #\n") (refused-entry .args .direction ∷ c .number .result ∷ []) (omega (arith, refused-entry .fits .direction), (omega (arith, c .number .ok), tt)))
+  refusal-short =
+      let d = refused-entry .args .direction in
+      let few : d < 10 ^ 10 = omega (arith, refused-entry .fits .direction) in
+      omega (arith, filled-short 9 (ascii "direction % refused #\n") (d ∷ c .number .result ∷ []) (few, (omega (arith, c .number .ok), tt)))
 
   refusal-is : let b = refused-entry .args in refusal ≡ lineOf (architectureOf (b .a)) (b .direction) (b .next .answer) (b .next .desk)
   unfolding lineOf
