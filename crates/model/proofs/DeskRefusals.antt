@@ -59,7 +59,7 @@ tests-high (q ∷ ps) (y ∷ xs) zero {p} {x} e f l =
 tests-high (q ∷ ps) (y ∷ xs) (suc i) e f l = or-is (leb (q .bound) (y .0)) _ .1 (inr (tests-high ps xs i e f l))
 
 -- 14 as a test and as a condition
-misfit-tests : (a : Architecture) (k : Desk) (d : ℕ) → deskFault a (onDesk a k) d ≡ true → Misfits a k d
+pub misfit-tests : (a : Architecture) (k : Desk) (d : ℕ) → deskFault a (onDesk a k) d ≡ true → Misfits a k d
 unfolding deskFault onDesk beyond
 misfit-tests a k d e = ⊎-elim
     (λ h. direction-out (leb-true _ _ h))
@@ -69,7 +69,7 @@ misfit-tests a k d e = ⊎-elim
     (or-is (beyond (k .environment) (a .environment)) _ .0 o))
     (or-is (beyond d (a .environment)) _ .0 e)
 
-tests-misfit : (a : Architecture) (k : Desk) (d : ℕ) → Misfits a k d → deskFault a (onDesk a k) d ≡ true
+pub tests-misfit : (a : Architecture) (k : Desk) (d : ℕ) → Misfits a k d → deskFault a (onDesk a k) d ≡ true
 unfolding deskFault onDesk
 tests-misfit a k d (direction-out l) = or-is (beyond d (a .environment)) _ .1 (inl (is-beyond d (a .environment) l))
 tests-misfit a k d (mask-out l) = or-is (beyond d (a .environment)) _ .1 (inr (or-is (beyond (k .environment) (a .environment)) _ .1 (inl (is-beyond (k .environment) (a .environment) l))))

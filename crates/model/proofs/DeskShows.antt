@@ -1,12 +1,14 @@
 -- A desk made fresh and stepped holds what the composition shows. The desk holds a composed state all along, so only a direction can be refused.
 use mathlib.Core.Path.{_≡_, refl, sym, ap, ap₂, _∙_, subst}
 use mathlib.Core.Bool.{Bool, true, false, _||_}
+use mathlib.Core.Logic.{_↔_}
 use mathlib.Core.List.{List, [], _∷_, _++_}
 use Prim.Native.Nat.{ℕ, zero, suc, _≤_}
 use native.Mathlib.Omega.{arith}
 use lib.ListN.{length, take, drop, length-take}
 use borrow.Author.Tests.{lt-leb}
 use Rattle.theory.specs.Lists.{put, filter}
+use Rattle.model.specs.declared.Refusal.{Refusal}
 use Rattle.model.specs.declared.Refusal.the-variants.{BadDirectionOrDesk}
 use Rattle.model.specs.declared.ProcessState.{ProcessState}
 use Rattle.model.specs.declared.Desk.{Desk}
@@ -22,10 +24,12 @@ use Rattle.model.specs.Choice.{IsTables}
 use Rattle.model.specs.Book.{readBook}
 use Rattle.model.specs.Desk.{numbers, processStates, onDesk, showing, freshIn, freshOf, tooHigh, deskFault, choiceFor, stepBy, stepIn, stepOf}
 use Rattle.model.specs.Desk.{deskAfter, answers, after, possible, dueFrom}
+use Rattle.model.specs.Refusals.{Misfits}
 use Rattle.model.specs.Demands.{desk}
 use Rattle.model.proofs.ProperSheet.{sheet-proper, below-bit}
 use Rattle.model.proofs.FaultsExact.{or-off, not-beyond}
 use Rattle.model.proofs.Refusing.{then-read}
+use Rattle.model.proofs.DeskRefusals.{misfit-tests, tests-misfit}
 use Rattle.model.proofs.BookRead.{read-choice}
 use Rattle.model.proofs.ComposedNumbers.{InBounds, nobody, also-in, IsState, initial-in, step-in}
 
@@ -138,6 +142,18 @@ module _ (sheet book : List ℕ) (s : Sheet) (c : List ℕ) (is-proper : readShe
       let rest = agreeing (stepOf sheet book k d .desk) (stepOf sheet book k′ d .desk) ds (one .1 ∙ ap (λ (t : Composed). stateOf (deskFault a t d) t d) e ∙ sym (other .1)) in
       (ap₂ (λ (x : Shown) (xs : List Shown). x ∷ xs) (one .0 ∙ ap (λ (t : Composed). answerOf (deskFault a t d) t d) e ∙ sym (other .0)) (rest .0), rest .1)
 
+  -- 14 exactly where something misfits
+  refused-just : (k : Desk) (d : ℕ) (r : Refusal) → (stepOf sheet book k d .answer ≡ Shown.Refused r) ↔ ((BadDirectionOrDesk ≡ r) × Misfits a k d)
+  unfolding answerOf
+  refused-just k d r = (
+    λ e. by (deskFault a (onDesk a k) d) refl (sym (counts k d .0) ∙ e),
+    λ h. counts k d .0 ∙ ap (λ (f : Bool). answerOf f (onDesk a k) d) (tests-misfit a k d (h .1)) ∙ ap Shown.Refused (h .0),
+  )
+    where
+      by : (f : Bool) → deskFault a (onDesk a k) d ≡ f → answerOf f (onDesk a k) d ≡ Shown.Refused r → (BadDirectionOrDesk ≡ r) × Misfits a k d
+      by true is e = let z : BadDirectionOrDesk ≡ r = cc in (z, misfit-tests a k d is)
+      by false is e = let z : _≡_ {A = ℕ} 0 1 = cc in absurd (omega arith)
+
   -- ---- a desk that holds a composed state
   -- the book has tables
   tables : IsTables a c
@@ -249,5 +265,6 @@ module _ (sheet book : List ℕ) (s : Sheet) (c : List ℕ) (is-proper : readShe
     shows = λ k ds. ap (onDesk a) (holds-fresh k ds) ∙ held k (after a c (initial a) (possible a ds)) (from-fresh k ds .is-state);
     others-stay = others-left;
     answered = λ k ds. ap (λ (x : FreshDesk). answers sheet book (x .desk) ds) (fresh-is k) ∙ from-fresh k ds .labels;
+    refused-exactly = refused-just;
     agree = agreeing;
   }

@@ -1,16 +1,18 @@
 //! Times annotating on the largest run graphs, by the library and by the
 //! independent run graph with its plain search for a run that breaks the sheet;
-//! then finding, by the library and by plain enumeration made for speed. Asserts
+//! then finding, by the library and by plain enumeration made for speed; then a
+//! step on a desk, by the library and by the independent transition system. Asserts
 //! that they agree and that such runs replay, and nothing about time.
 
 use std::hint::black_box;
 use std::time::{Duration, Instant};
 
-use soclethyme_tests::bench_cases::{case_c, proper_cases};
+use soclethyme_tests::bench_cases::{case_a, case_c, case_d, proper_cases, BOOK_A, BOOK_D};
 use soclethyme_tests::book::LONGEST_BOOK;
 use soclethyme_tests::choices::{choice_count, FoundChoice};
+use soclethyme_tests::desk::{self, Desk, DESK_LENGTH};
 use soclethyme_tests::fast_enumeration;
-use soclethyme_tests::ffi::{self, finding_number, NEGATIVE, POSITIVE};
+use soclethyme_tests::ffi::{self, finding_number, label_number, NEGATIVE, POSITIVE};
 use soclethyme_tests::joint_counter::JointCounter;
 use soclethyme_tests::lasso::{least_path, Lasso};
 use soclethyme_tests::looping_books::{adders, longest_run, PassedOnce};
@@ -294,6 +296,47 @@ fn measure_find(name: &str, sheet: Sheet) {
     print_times(name, choices, answer, library, enumeration);
 }
 
+/// The tables of two small cases, and the largest ones.
+fn books_to_step() -> Vec<NamedBook> {
+    let case = |name: &str, sheet, book: &[u8]| NamedBook {
+        name: name.into(),
+        input: SheetAndBook {
+            proper: ProperSheet::new(sheet),
+            book: book.into(),
+        },
+    };
+    let mut all = vec![
+        case("case A", case_a(), &BOOK_A),
+        case("case D", case_d(), &BOOK_D),
+    ];
+    all.extend(random_books().into_iter().take(2));
+    all.extend(counter_books().into_iter().take(1));
+    all
+}
+
+/// A step by direction 0. Sheet and book are read in each call, here as there.
+fn step_by_system(input: &SheetAndBook, desk: &mut Desk) -> u32 {
+    let label = desk::step(&system_of(input), desk, 0);
+    label.map_or_else(|refusal| refusal, label_number)
+}
+
+fn measure_step(named: &NamedBook) {
+    let input = &named.input;
+    let (sheet, book) = (&input.proper.bytes, &input.book);
+    let (mut by_library, mut by_system) = ([0; DESK_LENGTH], [0; DESK_LENGTH]);
+    assert_eq!(ffi::fresh(sheet, &mut by_library), POSITIVE);
+    assert_eq!(desk::fresh(sheet, &mut by_system), Ok(()));
+    for _ in 0..100 {
+        let label = ffi::step(sheet, book, &mut by_library, 0);
+        assert_eq!(label, step_by_system(input, &mut by_system));
+        assert_eq!(by_library, by_system);
+    }
+
+    let (label, library) = repeat(|| ffi::step(sheet, book, &mut by_library, 0));
+    let (_, system) = repeat(|| step_by_system(input, &mut by_system));
+    print_times(&named.name, book.len() as u64, label, library, system);
+}
+
 fn print_heading(call: &str, size: &str, other: &str) {
     let (answer, library, ratio) = ("answer", "library us", "ratio");
     println!("{call:<42} {size:>8} {answer:>6} {library:>14} {other:>14} {ratio:>8}");
@@ -313,4 +356,7 @@ fn main() {
     for (name, sheet) in sheets_to_search() {
         measure_find(name, sheet);
     }
+    println!();
+    print_heading("step", "book", "independent us");
+    books_to_step().iter().for_each(measure_step);
 }
