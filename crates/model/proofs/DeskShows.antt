@@ -5,7 +5,8 @@ use mathlib.Core.Logic.{_↔_}
 use mathlib.Core.List.{List, [], _∷_, _++_}
 use Prim.Native.Nat.{ℕ, zero, suc, _≤_}
 use native.Mathlib.Omega.{arith}
-use lib.ListN.{length, take, drop, length-take}
+use lib.ListN.{length, take, drop, length-take, length-map}
+use lib.Seq.{take-at, drop-at}
 use borrow.Author.Tests.{lt-leb}
 use Rattle.theory.specs.Lists.{put, filter}
 use Rattle.model.specs.declared.Refusal.{Refusal}
@@ -34,12 +35,14 @@ use Rattle.model.proofs.BookRead.{read-choice}
 use Rattle.model.proofs.ComposedNumbers.{InBounds, nobody, also-in, IsState, initial-in, step-in}
 
 -- ---- what is put on a desk is on it, and behind it the desk is as before
--- n states in front
+-- states put in front, and their numbers
+placed : (ys : List ℕ) (xs : List ProcessState) → numbers (processStates ys ++ xs) ≡ ys ++ numbers xs
+placed [] xs = refl
+placed (y ∷ ys) xs = ap (λ (l : List ℕ). y ∷ l) (placed ys xs)
+
+-- n of them
 filled : (n : ℕ) (ys : List ℕ) (xs : List ProcessState) → length ys ≡ n → take n (numbers (processStates ys ++ xs)) ≡ ys
-filled zero [] xs e = refl
-filled zero (y ∷ ys) xs e = absurd (omega arith)
-filled (suc n) [] xs e = absurd (omega arith)
-filled (suc n) (y ∷ ys) xs e = ap (λ (l : List ℕ). y ∷ l) (filled n ys xs (omega arith))
+filled n ys xs e = ap (λ (l : List ℕ). take n l) (placed ys xs) ∙ take-at ys (numbers xs) n e
 
 -- as many as there were
 refilled : (n : ℕ) (ys : List ℕ) (xs : List ProcessState) → length ys ≡ length (take n (numbers xs)) → take n (numbers (processStates ys ++ drop (length ys) xs)) ≡ ys
@@ -52,10 +55,7 @@ refilled (suc n) (y ∷ ys) (x ∷ xs) e = ap (λ (l : List ℕ). y ∷ l) (refi
 
 -- and the rest
 behind : (n : ℕ) (ys : List ℕ) (xs : List ProcessState) → length ys ≡ n → drop n (processStates ys ++ xs) ≡ xs
-behind zero [] xs e = refl
-behind zero (y ∷ ys) xs e = absurd (omega arith)
-behind (suc n) [] xs e = absurd (omega arith)
-behind (suc n) (y ∷ ys) xs e = behind n ys xs (omega arith)
+behind n ys xs e = drop-at (processStates ys) xs n (length-map ys _ ∙ e)
 
 -- who is put on the desk last is on it
 shown-last : (k : Desk) (t u : Composed) → length (t .states) ≡ length (u .states) → showing (showing k t) u ≡ showing k u

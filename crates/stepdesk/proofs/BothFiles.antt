@@ -1,5 +1,5 @@
 -- What is known of the two files: one is refused, or both are read, and the tables begin with the book's choice.
-use mathlib.Core.Path.{_≡_, sym, ap, _∙_, subst}
+use mathlib.Core.Path.{_≡_, sym, ap, _∙_}
 use mathlib.Core.Logic.{_⊎_, inl, inr}
 use mathlib.Core.List.{List}
 use Prim.Native.Nat.{ℕ}
@@ -11,21 +11,20 @@ use Rattle.model.specs.Sheet as model
 use Rattle.model.specs.Reading.{refused, proper, _then_, readSheet}
 use Rattle.model.specs.Choice.{IsTables, chosen}
 use Rattle.model.specs.Book.{readBook}
-use Rattle.model.specs.Calls.{AfterRead, tablesOf, gave, readOf}
+use Rattle.model.specs.Calls.{AfterRead, gave, readOf}
 use Rattle.model.specs.Desk.{onDesk, freshOf, stepOf}
 use Rattle.model.proofs.ProperSheet.{goes-on, sheet-proper}
 use Rattle.model.proofs.Refusing.{then-read, then-refused, refused-then}
-use Rattle.model.proofs.BookRead.{read-choice}
 use Rattle.model.proofs.ComposedNumbers.{IsState}
 use Rattle.model.proofs.DeskShows.{still-state, fresh-state}
 use Rattle.architecture.specs.Struct.{architectureOf}
-use Rattle.composition.proofs.ChoiceAtFront.{chosen-tables}
 use Rattle.sheet.specs.declared.Reading.{Reading}
 use Rattle.sheet.specs.declared.Sheet.{Sheet}
 use Rattle.sheet.specs.Struct.{sheetOf, Arrays, readingOf}
 use Rattle.book.specs.declared.TablesRead.{TablesRead}
 use Rattle.book.specs.Answers.{afterRead}
 use Rattle.book.proofs.ReadingAnswers.{gave-refused, gave-done}
+use Rattle.book.proofs.BookGivesChoice.{Chose, was-read}
 use Rattle.sizes.proofs.SheetRead.{reading-is}
 use Rattle.text.specs.Text.{refusedText, textOrRefused}
 use Rattle.stepping.specs.Lines.{startText, stepText}
@@ -50,40 +49,32 @@ module _ (sheet book : List ℕ) (t : TablesRead) (is : afterRead t ≡ readOf s
 
   module _ (done : t .answer ≡ Reply.Done) (q : Reading) (read : readingOf q ≡ readSheet sheet) (arrays : Arrays (q .sheet)) where
     -- both are read
-    pub both-read : BothRead sheet book (q .sheet)
+    sheet-is : readSheet sheet ≡ proper (sheetOf (q .sheet))
     unfolding readOf
-    both-read =
+    sheet-is =
         let d = gave-done _ (sym (ap (λ (x : AfterRead). x .answer) is) ∙ done) in
         let h = goes-on (readSheet sheet) _ (d .1) in
-        let same : sheetOf (q .sheet) ≡ h .0 = reading-is (q .answer) (q .sheet) (h .0) (read ∙ h .1) in
-        let is-sheet : readSheet sheet ≡ proper (sheetOf (q .sheet)) = h .1 ∙ ap proper (sym same) in
-        record {
-          choice = d .0;
-          is-sheet = is-sheet;
-          is-proper = record { arrays = arrays; proper = sheet-proper sheet (sheetOf (q .sheet)) is-sheet };
-          is-book = subst (λ (s : model.Sheet). readBook (s .architecture) book ≡ proper (d .0)) (sym same) (h .2);
-        }
+        h .1 ∙ ap proper (sym (reading-is (q .answer) (q .sheet) (h .0) (read ∙ h .1)))
+
+    chose : Chose (architectureOf (q .sheet .architecture)) book (t .tables)
+    unfolding readOf
+    chose = was-read (architectureOf (q .sheet .architecture)) book t (is ∙ ap gave (then-read _ sheet-is)) done
+
+    pub both-read : BothRead sheet book (q .sheet)
+    both-read = record {
+      choice = chosen (architectureOf (q .sheet .architecture)) (t .tables);
+      is-sheet = sheet-is;
+      is-proper = record { arrays = arrays; proper = sheet-proper sheet (sheetOf (q .sheet)) sheet-is };
+      is-book = chose .is-read;
+    }
 
     -- the tables begin with the choice
-    chosen-is : chosen (architectureOf (q .sheet .architecture)) (t .tables) ≡ both-read .choice
-    unfolding readOf gave
-    chosen-is =
-        let b = both-read in
-        let a = architectureOf (q .sheet .architecture) in
-        let tables : t .tables ≡ tablesOf (b .choice) = ap (λ (x : AfterRead). x .tables) (is ∙ ap gave (then-read _ (b .is-sheet) ∙ b .is-book)) in
-        ap (chosen a) tables ∙ chosen-tables a (b .choice) (read-choice a book (b .choice) (b .is-book) .0 .tables)
-
     pub are-tables : IsTables (architectureOf (q .sheet .architecture)) (chosen (architectureOf (q .sheet .architecture)) (t .tables))
-    are-tables =
-        let b = both-read in
-        let a = architectureOf (q .sheet .architecture) in
-        subst (IsTables a) (sym chosen-is) (read-choice a book (b .choice) (b .is-book) .0 .tables)
+    are-tables = chose .are-tables
 
     pub opening-is : opening sheet book ≡ startText (architectureOf (q .sheet .architecture)) (chosen (architectureOf (q .sheet .architecture)) (t .tables))
     unfolding opening textOrRefused
-    opening-is =
-        let b = both-read in
-        ap textOrRefused (then-read _ (b .is-sheet) ∙ then-read _ (b .is-book)) ∙ ap (startText (architectureOf (q .sheet .architecture))) (sym chosen-is)
+    opening-is = ap textOrRefused (then-read _ sheet-is ∙ then-read _ (chose .is-read))
 
 -- ---- where both are read
 module _ {sheet book : List ℕ} {s : Sheet} (b : BothRead sheet book s) where
