@@ -133,8 +133,8 @@ pub fn annotate(sheet: &[u8], book: &[u8], annotation: &mut [u16], path: &mut [u
     }
 }
 
-// Makes a desk fresh: the sheet's processes in state 0, and the root mask. A refusal hands the desk back as it came, and so are the places of processes that
-// the sheet lacks.
+// Makes a desk fresh: the sheet's processes in state 0, and the root mask. The places of processes that the sheet lacks are as they came, and after a refusal
+// the whole desk is.
 pub fn fresh(sheet: &[u8], desk: Desk) -> FreshDesk
     ensures { λ r. ⌜ r ≡ freshOf (now (sheet .entry)) desk ⌝ }
 {

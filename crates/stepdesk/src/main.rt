@@ -1,5 +1,5 @@
 // Steps the tables of a book on a desk: prints the start, and for each direction on standard input the label and the states after it, or its refusal. A
-// direction is a word of one or two hexadecimal digits. Each line is written as soon as its direction is read, so they may be typed.
+// direction is a word of one or two hexadecimal digits. Each line is written as soon as its direction is read, so directions may be typed.
 ghost use mathlib.Core.Path.{_≡_};
 ghost use Prim.Native.Nat.{_≤_};
 ghost use lib.ListN.{length};
