@@ -48,10 +48,6 @@ pub row-inside : (p : model.Process) (at x : ℕ) → x < p .bound → rowAt p a
 unfolding rowAt processLength
 row-inside p at x h = omega (arith, simp suc-mul at (mul-le-mul-right (rowLength p) h))
 
-pub row-pos : (p : model.Process) → 0 < rowLength p
-unfolding rowLength
-row-pos p = omega arith
-
 -- ---- the processes of the arrays: f 0, f 1, ..
 processes-grow : (f : ℕ → model.Process) → Grows f (λ n. processesOf n f)
 unfolding processesOf

@@ -11,13 +11,14 @@ use lib.ListN.{length, getD, drop, drop-of-length-le}
 use lib.Seq.{drop-cons}
 use borrow.Author.Tests.{eq-eqb, ne-eqb}
 use Rattle.theory.specs.Lists.{put, from}
+use Rattle.theory.proofs.ListLaws.{from-long}
 use Rattle.model.specs.Sheet.{Process, Architecture, ProperProcesses, ProperArchitecture, nobody, processNo}
 use Rattle.model.specs.Compose.{processLength}
 use Rattle.model.specs.Choice.{Entry, rows, entries, begins, lengthOf}
-use Rattle.architecture.proofs.ProcessesOfArrays.{row-pos}
+use Rattle.model.proofs.Places.{own, own-length, length-is, begins-rise}
+use Rattle.model.proofs.ComposedNumbers.{row-pos}
 use Rattle.ties.specs.Leaders.{joinAll, leaders, entryLeadersOf, entryLeaders}
-use Rattle.ties.proofs.Leaders.{from-long, Leads, leaders-lead}
-use Rattle.ties.proofs.Places.{own, own-length, length-is, begins-rise}
+use Rattle.ties.proofs.Leaders.{Leads, leaders-lead}
 use Rattle.ties.proofs.TablesOfArrays.{begins-first, begins-next}
 use Rattle.listing.specs.Listing.{leading, once}
 

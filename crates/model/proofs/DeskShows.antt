@@ -32,7 +32,7 @@ use Rattle.model.proofs.FaultsExact.{or-off, not-beyond}
 use Rattle.model.proofs.Refusing.{then-read}
 use Rattle.model.proofs.DeskRefusals.{misfit-tests, tests-misfit}
 use Rattle.model.proofs.BookRead.{read-choice}
-use Rattle.model.proofs.ComposedNumbers.{InBounds, nobody, also-in, IsState, initial-in, step-in}
+use Rattle.model.proofs.ComposedNumbers.{InBounds, nobody, also-in, in-length, IsState, initial-in, step-in}
 
 -- ---- what is put on a desk is on it, and behind it the desk is as before
 -- states put in front, and their numbers
@@ -65,12 +65,7 @@ shown-last k t u e =
     (behind (length (u .states)) (t .states) (drop (length (t .states)) (k .states)) e ∙ ap (λ (n : ℕ). drop n (k .states)) e)
 
 -- ---- a composed state has no fault
--- a state for each process
-in-length : {ps : List Process} {xs : List ℕ} → InBounds ps xs → length xs ≡ length ps
-in-length nobody = refl
-in-length (also-in l h) = ap suc (in-length h)
-
--- and none is too high
+-- no state is too high
 none-high : {ps : List Process} {xs : List ℕ} → InBounds ps xs → tooHigh ps xs ≡ false
 unfolding tooHigh
 none-high nobody = refl
@@ -193,6 +188,19 @@ module _ (sheet book : List ℕ) (s : Sheet) (c : List ℕ) (is-proper : readShe
       by : (f : Bool) → f ≡ beyond d (a .environment) → IsState a (stateOf f (onDesk a k) d)
       by true e = w
       by false e = step-in a c (onDesk a k) d tables w (below-bit d (a .environment) (sym e))
+
+  -- a call on such a desk: refused, it leaves the desk; taken, it answers the label of what is on the desk then
+  pub call-refused : (k : Desk) (d : ℕ) → IsState a (onDesk a k) → beyond d (a .environment) ≡ true → stepOf sheet book k d ≡ record { answer = Shown.Refused BadDirectionOrDesk; desk = k }
+  unfolding stepBy refuse_when_else_
+  call-refused k d w e = weighed k d ∙ ap (λ (f : Bool). stepBy a (refuse BadDirectionOrDesk when f else proper c) k d) (only-direction a (onDesk a k) d w ∙ e)
+
+  pub call-taken : (k : Desk) (d : ℕ) → IsState a (onDesk a k) → beyond d (a .environment) ≡ false → let u = step a c (onDesk a k) d in
+      (stepOf sheet book k d .answer ≡ Shown.Label (label a c u)) × (onDesk a (stepOf sheet book k d .desk) ≡ u)
+  unfolding answerOf stateOf
+  call-taken k d w e =
+      let one = counts k d in
+      let none = only-direction a (onDesk a k) d w ∙ e in
+      (one .0 ∙ ap (λ (f : Bool). answerOf f (onDesk a k) d) none, one .1 ∙ ap (λ (f : Bool). stateOf f (onDesk a k) d) none)
 
   -- along a row of directions
   record Holds (k : Desk) (t : Composed) (ds : List ℕ) : Type 0 where

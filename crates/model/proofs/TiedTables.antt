@@ -20,7 +20,7 @@ use Rattle.model.proofs.DeskRefusals.{step-exactly}
 use Rattle.model.proofs.DemandThree.{own-choice}
 
 -- ties chain: no word of it is needed in `KeepsTies`
-chained : (a : Architecture) (c : List ℕ) → KeepsTies a c → OneTable a c
+pub chained : (a : Architecture) (c : List ℕ) → KeepsTies a c → OneTable a c
 chained a c keeps i j (tied {t = t} m) = keeps t m
 chained a c keeps i j itself = refl
 chained a c keeps i j (back h) = sym (chained a c keeps j i h)

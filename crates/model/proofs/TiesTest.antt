@@ -1,9 +1,9 @@
 -- The test `keepsTies` is the proposition `KeepsTies`; what follows the entries is ignored.
-use mathlib.Core.Path.{_≡_, ap, _∙_}
+use mathlib.Core.Path.{_≡_, ap}
 use mathlib.Core.Bool.{true}
 use mathlib.Core.Logic.{_↔_}
 use mathlib.Core.List.{List, [], _∷_}
-use Prim.Native.Nat.{ℕ, zero, suc, _+_, _*_, _≤_}
+use Prim.Native.Nat.{ℕ, zero, suc, _+_, _≤_}
 use native.Mathlib.Omega.{arith}
 use lib.ListN.{length, length-append}
 use lib.Seq.{getD-take}
@@ -11,10 +11,8 @@ use Rattle.theory.specs.Lists.{all, same}
 use Rattle.theory.proofs.ListLaws.{all-is, same-is}
 use Rattle.theory.proofs.EqualGraphs.{tab-same}
 use Rattle.model.specs.Sheet.{Process, Architecture}
-use Rattle.model.specs.Compose.{processLength}
-use Rattle.model.specs.Choice.{row, times, rows, entries, begins, lengthOf, packedValue, entryAt, packedAt, tableOf, KeepsTies, kept, keepsTies, chosen}
-use Rattle.model.proofs.FitsTest.{row-length}
-use Rattle.model.proofs.ComposedNumbers.{times-length}
+use Rattle.model.specs.Choice.{rows, entries, begins, lengthOf, packedValue, entryAt, packedAt, tableOf, KeepsTies, kept, keepsTies, chosen}
+use Rattle.model.proofs.Places.{own, own-length}
 
 -- the test decides
 pub keeps-ties-is : (a : Architecture) (c : List ℕ) → (keepsTies a c ≡ true) ↔ KeepsTies a c
@@ -25,16 +23,12 @@ keeps-ties-is a c = (
 )
 
 -- ---- what follows the entries is ignored
-own-length : (p : Process) → length (times (p .bound) (row p)) ≡ processLength p
-unfolding processLength
-own-length p = times-length (p .bound) (row p) ∙ ap (λ (n : ℕ). p .bound * n) (row-length p)
-
 -- the entries of process i end among all; where there is no such process there is none
 inside : (ps : List Process) (i : ℕ) → begins ps i + lengthOf ps i ≤ length (rows ps)
 unfolding begins lengthOf rows
 inside [] i = omega arith
-inside (p ∷ ps) zero = omega (arith, length-append (times (p .bound) (row p)) (rows ps), own-length p)
-inside (p ∷ ps) (suc i) = omega (arith, length-append (times (p .bound) (row p)) (rows ps), own-length p, inside ps i)
+inside (p ∷ ps) zero = omega (arith, length-append (own p) (rows ps), own-length p)
+inside (p ∷ ps) (suc i) = omega (arith, length-append (own p) (rows ps), own-length p, inside ps i)
 
 table-chosen : (a : Architecture) (tables : List ℕ) (i : ℕ) → tableOf a (chosen a tables) i ≡ tableOf a tables i
 unfolding tableOf packedAt entries

@@ -10,6 +10,7 @@ pub mod Computed
 pub mod Book
 pub mod Calls
 pub mod Desk
+pub mod Information
 pub mod Numbers
 pub mod Refusals
 pub mod Demands

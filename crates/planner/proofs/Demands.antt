@@ -9,7 +9,7 @@ use Rattle.model.specs.Reading.{proper, readSheet}
 use Rattle.model.specs.BenchCases.{sheetE, edge, bookE}
 use Rattle.model.specs.Book.{readBook}
 use Rattle.model.specs.Calls.{findSheet, judgeOf}
-use Rattle.model.specs.Demands.{demand-1, demand-2, demand-3, tied-tables, prompt-inputs, unless-edges, desk, sizes}
+use Rattle.model.specs.Demands.{demand-1, demand-2, demand-3, tied-tables, prompt-inputs, unless-edges, desk, information, sizes}
 use Rattle.model.proofs.DemandOne.{first-demand}
 use Rattle.model.proofs.DemandTwo.{second-demand}
 use Rattle.model.proofs.DemandThree.{third-demand}
@@ -17,6 +17,7 @@ use Rattle.model.proofs.TiedTables.{all-tied}
 use Rattle.model.proofs.PromptInputs.{all-prompted}
 use Rattle.model.proofs.UnlessEdges.{all-unless}
 use Rattle.model.proofs.DeskShows.{desk-shows}
+use Rattle.model.proofs.Information.{all-information}
 use Rattle.model.proofs.Sizes.{all-sizes}
 
 -- 1: a fault gets exactly its number, and every lent buffer then holds what it held before
@@ -47,6 +48,10 @@ exact-unless = all-unless
 pub exact-desk : (sheet book : List ℕ) (s : Sheet) (c : List ℕ) (is-proper : readSheet sheet ≡ proper s) (is-book : readBook (s .architecture) book ≡ proper c)
     → desk sheet book s c is-proper is-book
 exact-desk = desk-shows
+
+-- information: a process acts on its own table and on what it reads, and on nothing else
+pub exact-information : information
+exact-information = all-information
 
 -- the sizes that 01 prints
 pub exact-sizes : (sheet : List ℕ) (s : Sheet) (is-proper : readSheet sheet ≡ proper s) → sizes sheet s is-proper

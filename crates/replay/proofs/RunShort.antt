@@ -1,10 +1,11 @@
 -- How long the text of a run is at most: 64 bytes for each step, and 128 for the rest.
 use mathlib.Core.Path.{refl}
-use mathlib.Core.List.{List, [], _∷_, List·Memᴰ, List·Memᴰ·head, List·Memᴰ·tail}
-use Prim.Native.Nat.{ℕ, zero, suc, _+_, _*_, _^_, _<_, _≤_}
+use mathlib.Core.List.{List, [], _∷_, List·Memᴰ·head, List·Memᴰ·tail}
+use Prim.Native.Nat.{ℕ, _+_, _*_, _^_, _<_, _≤_}
 use native.Mathlib.Omega.{arith}
 use lib.Bits.{or-lt}
 use lib.ListN.{length, getD, drop, length-append, length-take}
+use Rattle.theory.proofs.ListLaws.{list-has}
 use Rattle.model.specs.Ascii.{ascii}
 use Rattle.model.specs.Sheet.{Process, Sheet, ProperProcesses, ProperSheet}
 use Rattle.model.specs.Compose.{Composed, rowAt, processLength, outputs, present, label}
@@ -29,12 +30,6 @@ states-short g (also-in {p = p} {ps} {x} {xs} l w) =
 pub record InRun (s : Sheet) (v : Vertex) : Type 0 where
   pub automaton-few : v .automaton < 16
   pub composed-in : IsState (s .architecture) (v .composed)
-
--- what has a number stands in the list
-list-has : {A : Type 0} (xs : List A) (k : ℕ) (d : A) → k < length xs → List·Memᴰ (getD xs k d) xs
-list-has [] k d h = absurd (omega arith)
-list-has (x ∷ xs) zero d h = List·Memᴰ·head refl
-list-has (x ∷ xs) (suc k) d h = List·Memᴰ·tail (list-has xs k d (omega arith))
 
 module _ (s : Sheet) (good : ProperSheet s) (c : List ℕ) (choice : IsTables (s .architecture) c) where
   -- the initial vertex is one

@@ -3,3 +3,4 @@ pub mod EveryRow
 pub mod EveryExample
 mod EveryRun
 pub mod EveryDesk
+pub mod EveryFace

@@ -2,3 +2,4 @@ pub mod Table
 pub mod Examples
 pub mod Runs
 pub mod Desks
+pub mod Faces

@@ -9,9 +9,10 @@ use lib.ListN.{length, getD, take, drop, length-take, length-drop}
 use lib.Seq.{drop-cons}
 use Rattle.model.specs.Sheet.{Process, Edge}
 use Rattle.model.specs.Compose.{rowLength, rowAt}
+use Rattle.model.proofs.ComposedNumbers.{row-pos}
 use Rattle.architecture.specs.Struct.{entriesOf, processIn, firstIn, processesIn}
 use Rattle.architecture.specs.declared.Architecture.{Architecture}
-use Rattle.architecture.proofs.ProcessesOfArrays.{row-pos, start-next, process-next, processes-end}
+use Rattle.architecture.proofs.ProcessesOfArrays.{start-next, process-next, processes-end}
 use Rattle.automaton.specs.declared.Automaton.{Automaton}
 use Rattle.automaton.specs.Struct as edges
 use Rattle.automaton.proofs.Edges.{edge-next, edges-end}

@@ -2,7 +2,7 @@
 use mathlib.Core.Path.{_≡_, refl, sym, ap, ap₂, _∙_, subst}
 use mathlib.Core.Bool.{Bool, true, false, _&&_, _||_, or-true, true≢false}
 use mathlib.Core.Logic.{_⊎_, inl, inr, ⊎-elim, _↔_}
-use mathlib.Core.List.{List, [], _∷_, _++_, append-nil, append-assoc, List·Memᴰ, List·Memᴰ·head, List·Memᴰ·tail, List·Memᴰ·not-nil, List·Memᴰ·cases-cons, List·Memᴰ·append-cases, Memᴰ·append-left, Memᴰ·append-right}
+use mathlib.Core.List.{List, [], _∷_, _++_, map, append-nil, append-assoc, List·Memᴰ, List·Memᴰ·head, List·Memᴰ·tail, List·Memᴰ·not-nil, List·Memᴰ·cases-cons, List·Memᴰ·append-cases, Memᴰ·append-left, Memᴰ·append-right}
 use Prim.Native.Nat.{ℕ, zero, suc, _+_, _≤_, _<_, max}
 use native.Mathlib.Numerals.{add-one}
 use native.Mathlib.Omega.{arith}
@@ -204,6 +204,17 @@ tab-from h (suc n) i (suc v) d l = tab-from h n (suc i) v d (omega arith) ∙ ap
 pub tab-at : (h : ℕ → ℕ) (n v d : ℕ) → v < n → getD (tab h n 0) v d ≡ h v
 tab-at h n v d l = tab-from h n 0 v d l ∙ ap h (omega arith)
 
+-- what has a number stands in the list
+pub list-has : {A : Type 0} (xs : List A) (k : ℕ) (d : A) → k < length xs → List·Memᴰ (getD xs k d) xs
+list-has [] k d h = absurd (omega arith)
+list-has (x ∷ xs) zero d h = List·Memᴰ·head refl
+list-has (x ∷ xs) (suc k) d h = List·Memᴰ·tail (list-has xs k d (omega arith))
+
+pub map-there : {A : Type 0} (h : ℕ → A) (xs : List ℕ) (i : ℕ) (d : A) → i < length xs → getD (map h xs) i d ≡ h (getD xs i 0)
+map-there h [] i d l = absurd (omega arith)
+map-there h (x ∷ xs) zero d l = refl
+map-there h (x ∷ xs) (suc i) d l = map-there h xs i d (omega arith)
+
 -- an element of a list does not depend on the default
 pub any-default : {A : Type 0} (l : List A) (i : ℕ) (a b : A) → i < length l → getD l i a ≡ getD l i b
 any-default [] i a b h = absurd (omega arith)
@@ -269,6 +280,21 @@ from-has (suc n) i x l h = by (ℕ-discrete x i) (λ a b. from-has n (suc i) x a
     by : Dec (x ≡ i) → (suc i ≤ x → x < suc i + n → List·Memᴰ x (from n (suc i))) → List·Memᴰ x (i ∷ from n (suc i))
     by (yes e) ih = List·Memᴰ·head e
     by (no d) ih = List·Memᴰ·tail (ih (omega arith) (omega arith))
+
+pub from-long : (n i : ℕ) → length (from n i) ≡ n
+unfolding from
+from-long zero i = refl
+from-long (suc n) i = ap suc (from-long n (suc i))
+
+pub from-at : (n i j : ℕ) → j < n → getD (from n i) j 0 ≡ i + j
+unfolding from
+from-at zero i j l = absurd (omega arith)
+from-at (suc n) i zero l = omega arith
+from-at (suc n) i (suc j) l = omega (arith, from-at n (suc i) j (omega arith))
+
+-- the values at i, i + 1, ..
+pub map-from-at : {A : Type 0} (h : ℕ → A) (n i j : ℕ) (d : A) → j < n → getD (map h (from n i)) j d ≡ h (i + j)
+map-from-at h n i j d l = map-there h (from n i) j d (omega (arith, from-long n i)) ∙ ap h (from-at n i j l)
 
 pub from-least : (n i y : ℕ) → List·Memᴰ y (from n i) → i ≤ y
 unfolding from

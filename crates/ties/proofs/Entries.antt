@@ -7,14 +7,15 @@ use native.Mathlib.Omega.{arith}
 use lib.ListN.{length, getD, length-append, List·getD-append}
 use lib.Seq.{getD-append-add, ext-getD}
 use Rattle.theory.specs.Lists.{from, tab}
-use Rattle.theory.proofs.ListLaws.{tab-from}
+use Rattle.theory.proofs.ListLaws.{tab-from, from-long, from-at}
 use Rattle.model.specs.Sheet.{Process, Architecture, SameShape, ProperTies, processNo}
 use Rattle.model.specs.Compose.{processLength}
 use Rattle.model.specs.Choice.{next, entries, rows, begins, lengthOf, entryAt, packedAt, tableOf, KeepsTies}
+use Rattle.model.proofs.Places.{own, own-length, Place, place-of, place-inside, entry-there, length-is, shape-itself, shape-turn, shape-chain, shape-length, begins-rise}
 use Rattle.ties.specs.Leaders.{leaders, entryLeadersOf, entryLeaders, AsLeaders}
 use Rattle.ties.specs.Unpack.{Matches}
-use Rattle.ties.proofs.Leaders.{from-long, from-at, Leads, AllThere, leaders-lead, leaders-tied, leaders-led}
-use Rattle.ties.proofs.Places.{own, own-length, Place, place-of, place-inside, entry-there, length-is, shape-itself, shape-turn, shape-chain, shape-length, own-match, begins-rise}
+use Rattle.ties.proofs.Leaders.{Leads, AllThere, leaders-lead, leaders-tied, leaders-led}
+use Rattle.ties.proofs.MatchingEntries.{own-match}
 
 tab-long : (h : ℕ → ℕ) (n i : ℕ) → length (tab h n i) ≡ n
 unfolding tab

@@ -6,7 +6,7 @@ use native.Mathlib.Omega.{arith}
 use native.Mathlib.Decide.{ℕ-discrete}
 use lib.ListN.{length, getD, set, length-set, length-map}
 use lib.Seq.{getD-set-same, getD-set-other, ext-getD}
-use Rattle.ties.proofs.Leaders.{map-there}
+use Rattle.theory.proofs.ListLaws.{map-there}
 
 pub record Joined (f : ℕ → ℕ) (old new : List ℕ) (i : ℕ) : Type 0 where
   pub inside : i ≤ 4

@@ -11,26 +11,10 @@ use lib.ListN.{length, getD, take, length-map}
 use lib.Seq.{getD-take}
 use borrow.Author.Tests.{eqb-true, eq-eqb}
 use Rattle.theory.specs.Lists.{from}
+use Rattle.theory.proofs.ListLaws.{map-there, from-long, from-at}
 use Rattle.model.specs.Mask.{if}
 use Rattle.model.specs.Sheet.{Tie}
 use Rattle.ties.specs.Leaders.{instead, join, joinAll, leaders}
-
--- ---- lists
-pub map-there : {A : Type 0} (h : ℕ → A) (xs : List ℕ) (i : ℕ) (d : A) → i < length xs → getD (map h xs) i d ≡ h (getD xs i 0)
-map-there h [] i d l = absurd (omega arith)
-map-there h (x ∷ xs) zero d l = refl
-map-there h (x ∷ xs) (suc i) d l = map-there h xs i d (omega arith)
-
-pub from-long : (n i : ℕ) → length (from n i) ≡ n
-unfolding from
-from-long zero i = refl
-from-long (suc n) i = ap suc (from-long n (suc i))
-
-pub from-at : (n i j : ℕ) → j < n → getD (from n i) j 0 ≡ i + j
-unfolding from
-from-at zero i j l = absurd (omega arith)
-from-at (suc n) i zero l = omega arith
-from-at (suc n) i (suc j) l = omega (arith, from-at n (suc i) j (omega arith))
 
 -- ---- one number instead of another
 instead-cases : (old new x : ℕ) → ((x ≡ old) × (instead old new x ≡ new)) ⊎ (instead old new x ≡ x)

@@ -1,6 +1,6 @@
 -- the laws that the proofs of the functions, and of the search, cite
 pub mod Leaders
-pub mod Places
+pub mod MatchingEntries
 pub mod Unpacked
 pub mod Entries
 pub mod SetGroup

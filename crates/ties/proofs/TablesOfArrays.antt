@@ -7,17 +7,17 @@ use native.Mathlib.Omega.{arith}
 use lib.ListN.{length, getD, take, drop}
 use lib.Seq.{getD-take, length-take-le}
 use Rattle.theory.specs.Lists.{tab, all, same}
+use Rattle.theory.proofs.ListLaws.{map-there}
 use Rattle.theory.proofs.EqualGraphs.{tab-same}
 use Rattle.model.specs.Sheet.{Process, Tie, ProperTie, processNo, nobody}
 use Rattle.model.specs.Compose.{processLength}
 use Rattle.model.specs.Choice.{Entry, next, entries, begins, lengthOf, packedValue, packedAt, tableOf, kept}
+use Rattle.model.proofs.Places.{length-is, shape-length}
 use Rattle.architecture.specs.declared.Architecture.{Architecture}
 use Rattle.architecture.specs.Struct.{IsProper, architectureOf, processIn, processesIn, processesOf, firstIn, tieOf, tiesIn, entriesOf}
 use Rattle.architecture.proofs.ProcessesOfArrays.{processes-at, processes-length, entries-are, entries-snoc, start-few, starts-at, start-next, tie-next, ties-end, tie-has}
 use Rattle.choice.specs.Kinds.{kindOf, kindsOf}
 use Rattle.ties.specs.Tables.{packedIn, tableIn}
-use Rattle.ties.proofs.Leaders.{map-there}
-use Rattle.ties.proofs.Places.{length-is, shape-length}
 
 -- ---- where the entries of the next process begin
 pub begins-first : (ps : List Process) → begins ps 0 ≡ 0

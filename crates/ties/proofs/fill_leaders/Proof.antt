@@ -4,13 +4,13 @@ use Prim.Native.Nat.{_+_, _-_, _<_, _≤_}
 use native.Mathlib.Omega.{arith}
 use lib.ListN.{length, getD}
 use Rattle.theory.specs.Lists.{from}
+use Rattle.theory.proofs.ListLaws.{from-long}
 use Rattle.model.specs.Choice.{entries}
 use Rattle.architecture.specs.Struct.{architectureOf}
 use Rattle.architecture.proofs.ProcessesOfArrays.{start-few, process-few}
 use Rattle.choice.proofs.KindWords.{entries-few}
 use Rattle.append.proofs.Appending.{Appending, Opens, appending-none, appending-next, appending-length, appending-room, appending-all}
 use Rattle.ties.specs.Leaders.{entryLeaders}
-use Rattle.ties.proofs.Leaders.{from-long}
 use Rattle.ties.proofs.LeadersOfArrays.{leadersFrom, leaders-all, leaders-none, leaders-count, own-there, leaders-open}
 use Rattle.ties.proofs.fill_leaders.Statement.{statement}
 use Rattle.ties.proofs.fill_leaders.Tie as tie

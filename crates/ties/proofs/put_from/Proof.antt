@@ -5,8 +5,8 @@ use native.Mathlib.Numerals.{unary-clauses}
 use native.Mathlib.Omega.{arith}
 use lib.ListN.{length}
 use Rattle.theory.specs.Lists.{from}
+use Rattle.theory.proofs.ListLaws.{from-long}
 use Rattle.append.proofs.Appending.{Appending, Opens, appending-none, appending-next, appending-length, appending-room, appending-all}
-use Rattle.ties.proofs.Leaders.{from-long}
 use Rattle.ties.proofs.LeadersOfArrays.{from-open, from-end}
 use Rattle.ties.proofs.put_from.Statement.{statement}
 use Rattle.ties.proofs.put_from.Tie as tie

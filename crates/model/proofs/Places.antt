@@ -1,18 +1,17 @@
--- Where the entries of the processes stand: each entry is one of a process, at a place of its table.
-use mathlib.Core.Path.{_≡_, refl, sym, ap, ap₂, _∙_, subst}
+-- Where the entries of the processes stand: each entry is one of a process, at a place of its table; and processes of one shape have equally many.
+use mathlib.Core.Path.{_≡_, refl, sym, ap, ap₂, _∙_}
 use mathlib.Core.List.{List, [], _∷_, _++_}
 use Prim.Native.Nat.{ℕ, zero, suc, _+_, _-_, _*_, _^_, _≤_, _<_}
 use native.Mathlib.Omega.{arith}
 use native.Mathlib.Decide.{decLt}
-use lib.ListN.{length, getD, length-append, replicate, List·getD-append}
+use lib.Arith.{digits-lt}
+use lib.ListN.{length, getD, length-append, List·getD-append}
 use lib.Seq.{getD-append-add}
-use Rattle.model.specs.Mask.{count}
 use Rattle.model.specs.Sheet.{Process, SameShape, processNo}
 use Rattle.model.specs.Compose.{rowLength, processLength}
-use Rattle.model.specs.Choice.{Entry, next, row, times, rows, begins, lengthOf}
+use Rattle.model.specs.Choice.{Entry, row, times, rows, begins, lengthOf}
 use Rattle.model.proofs.FitsTest.{row-length}
-use Rattle.model.proofs.ComposedNumbers.{times-length}
-use Rattle.ties.specs.Unpack.{Matches, masks, states}
+use Rattle.model.proofs.ComposedNumbers.{times-length, times-at}
 
 -- the entries of one process
 abbrev pub own : Process → List Entry
@@ -21,6 +20,14 @@ own p = times (p .bound) (row p)
 pub own-length : (p : Process) → length (own p) ≡ processLength p
 unfolding processLength
 own-length p = times-length (p .bound) (row p) ∙ ap (λ (n : ℕ). p .bound * n) (row-length p)
+
+-- the row of each state
+pub own-at : (p : Process) (x j : ℕ) (d : Entry) → x < p .bound → j < rowLength p → getD (own p) (x * rowLength p + j) d ≡ getD (row p) j d
+unfolding processLength
+own-at p x j d lx lj =
+    sym (List·getD-append (own p) [] d (x * rowLength p + j) (omega (arith, digits-lt lx lj, own-length p)))
+    ∙ ap (λ (n : ℕ). getD (own p ++ []) (x * n + j) d) (sym (row-length p))
+    ∙ times-at (p .bound) x j (row p) [] d lx (omega (arith, row-length p))
 
 -- entry k is at place j of process i
 pub record Place (ps : List Process) (k : ℕ) : Type 0 where
@@ -90,37 +97,3 @@ shape-chain h k = record { bounds = h .bounds ∙ k .bounds; inputs = h .inputs 
 pub shape-length : (p q : Process) → SameShape p q → processLength p ≡ processLength q
 unfolding processLength rowLength
 shape-length p q h = ap₂ (λ (b n : ℕ). b * (1 + 2 ^ n)) (h .bounds) (h .inputs)
-
--- entries that match, one by one
-data AllMatch : List Entry → List Entry → Type 0 where
-  none : AllMatch [] []
-  more : {e f : Entry} {es fs : List Entry} → Matches e f → AllMatch es fs → AllMatch (e ∷ es) (f ∷ fs)
-
-match-at : {es fs : List Entry} → AllMatch es fs → (j : ℕ) (d : Entry) → j < length es → Matches (getD es j d) (getD fs j d)
-match-at none j d l = absurd (omega arith)
-match-at (more a r) zero d l = a
-match-at (more a r) (suc j) d l = match-at r j d (omega arith)
-
-replicate-match : (n : ℕ) {e f : Entry} → Matches e f → AllMatch (replicate n e) (replicate n f)
-replicate-match zero a = none
-replicate-match (suc n) a = more a (replicate-match n a)
-
-append-match : {es fs es′ fs′ : List Entry} → AllMatch es fs → AllMatch es′ fs′ → AllMatch (es ++ es′) (fs ++ fs′)
-append-match none b = b
-append-match (more a r) b = more a (append-match r b)
-
-times-match : (n : ℕ) {es fs : List Entry} → AllMatch es fs → AllMatch (times n es) (times n fs)
-unfolding times
-times-match zero a = none
-times-match (suc n) a = append-match a (times-match n a)
-
-row-match : (p q : Process) → SameShape p q → AllMatch (row p) (row q)
-unfolding row
-row-match p q h =
-    more (masks (h .outputs))
-    (subst (λ (n : ℕ). AllMatch (replicate (2 ^ count (p .inputs)) (next (p .bound))) (replicate (2 ^ n) (next (q .bound)))) (h .inputs)
-    (replicate-match (2 ^ count (p .inputs)) (subst (λ (b : ℕ). Matches (next (p .bound)) (next b)) (h .bounds) states)))
-
-pub own-match : (p q : Process) (j : ℕ) (d : Entry) → SameShape p q → j < processLength p → Matches (getD (own p) j d) (getD (own q) j d)
-own-match p q j d h l =
-    match-at (subst (λ (b : ℕ). AllMatch (own p) (times b (row q))) (h .bounds) (times-match (p .bound) (row-match p q h))) j d (omega (arith, own-length p))

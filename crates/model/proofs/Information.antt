@@ -1,0 +1,171 @@
+-- A process acts on its own table and on what it reads. On a desk its place and its bits of the label are what is seen of it, so the same holds of two desks.
+use mathlib.Core.Path.{_≡_, refl, sym, ap, ap₂, _∙_, subst}
+use mathlib.Core.Bool.{Bool, true, false}
+use mathlib.Core.Logic.{_↔_}
+use mathlib.Core.List.{List, [], _∷_, _++_}
+use Prim.Native.Nat.{ℕ, _+_, _-_, _*_, _^_, _≤_, _<_}
+use native.Mathlib.Nat.{mul-le-mul-right}
+use native.Mathlib.Omega.{arith}
+use native.Mathlib.Decide.{decLt}
+use lib.Pow.{pow-mono, pow-lt}
+use lib.ListN.{length, getD, take, drop, length-map, length-take, length-drop}
+use lib.Seq.{getD-take}
+use Rattle.theory.specs.Lists.{put, filter, from}
+use Rattle.theory.proofs.ListLaws.{list-has, from-long, map-from-at}
+use Rattle.model.specs.declared.Desk.{Desk}
+use Rattle.model.specs.declared.Shown.{Shown}
+use Rattle.model.specs.declared.Stepped.{Stepped}
+use Rattle.model.specs.Mask.{beyond, count, pack}
+use Rattle.model.specs.Sheet.{Process, Architecture, Sheet, nobody, processNo}
+use Rattle.model.specs.Compose.{Composed, rowLength, processLength, rowAt, label, step, initial, composed}
+use Rattle.model.specs.Choice.{entries, begins, lengthOf}
+use Rattle.model.specs.Desk.{numbers, onDesk, freshOf, stepOf, deskAfter, after, possible}
+use Rattle.model.specs.Information.{rowTable, valuesRead, indexRead, indexesRead, Face, face, shows, alone, faceOn, showsOn}
+use Rattle.model.specs.Demands.{InSystem, AtDesk, information}
+use Rattle.model.proofs.ProperSheet.{sheet-proper, below-bit}
+use Rattle.model.proofs.FitsTest.{fits-length}
+use Rattle.model.proofs.BookRead.{read-choice}
+use Rattle.model.proofs.ComposedNumbers.{IsState, composed-in, row-pos, step-in}
+use Rattle.model.proofs.Places.{place-inside, length-is}
+use Rattle.model.proofs.OutputBits.{label-outputs}
+use Rattle.model.proofs.PackedBits.{AgreeAt, pack-agrees}
+use Rattle.model.proofs.PromptInputs.{read-by-label}
+use Rattle.model.proofs.TiedTables.{chained}
+use Rattle.model.proofs.DeskShows.{fresh-state, desk-shows, call-refused, call-taken}
+use Rattle.model.proofs.ActsAlone.{acts-alone}
+use Rattle.model.proofs.SamePacked.{same-packed, chain-shape}
+
+-- ---- two processes with the same rows
+-- of one system: as many rows as states, and as long as its inputs ask for
+module _ {a : Architecture} {c : List ℕ} {i : ℕ} (z : InSystem a c i) where
+  abbrev p : Process
+  p = processNo (a .processes) i
+
+  some-state : 1 ≤ p .bound
+  some-state = z .is-proper .front .processes-proper p (list-has (a .processes) i nobody (z .known)) .some-state
+
+  rows-many : length (rowTable a c i) ≡ p .bound
+  unfolding rowTable
+  rows-many = length-map (from (p .bound) 0) _ ∙ from-long (p .bound) 0
+
+  first-long : length (getD (rowTable a c i) 0 []) ≡ rowLength p
+  unfolding rowTable rowAt processLength entries
+  first-long =
+      let ps = a .processes in
+      let row : ℕ → List ℕ = λ x. take (rowLength p) (drop (rowAt p (begins ps i) x) c) in
+      let own : rowLength p ≤ lengthOf ps i = omega (arith, length-is ps i (z .known), mul-le-mul-right (rowLength p) some-state) in
+      let there : begins ps i + (rowLength p - 1) < length c = omega (arith, fits-length (z .tables), place-inside ps i (rowLength p - 1) (z .known) (omega (arith, row-pos p))) in
+      ap length (map-from-at row (p .bound) 0 0 [] some-state)
+      ∙ length-take (rowLength p) (drop (begins ps i + 0 * rowLength p) c)
+      ∙ omega (arith, length-drop (begins ps i + 0 * rowLength p) c, row-pos p)
+
+module _ {a a′ : Architecture} {c c′ : List ℕ} {i i′ : ℕ} (z : InSystem a c i) (z′ : InSystem a′ c′ i′) (rows : rowTable a c i ≡ rowTable a′ c′ i′) where
+  same-seen : (ds ds′ : List ℕ) → indexesRead a c i (initial a) ds ≡ indexesRead a′ c′ i′ (initial a′) ds′ → shows a c i (initial a) ds ≡ shows a′ c′ i′ (initial a′) ds′
+  same-seen ds ds′ read = acts-alone z ds ∙ ap₂ (λ (table : List (List ℕ)) (ks : List ℕ). alone table 0 ks) rows read ∙ sym (acts-alone z′ ds′)
+
+  same-shape : let p = processNo (a .processes) i in let q = processNo (a′ .processes) i′ in (p .bound ≡ q .bound) × (count (p .inputs) ≡ count (q .inputs))
+  unfolding rowLength
+  same-shape = (sym (rows-many z) ∙ ap length rows ∙ rows-many z′, power (omega (arith, first-long z, first-long z′, ap (λ (r : List (List ℕ)). length (getD r 0 [])) rows)))
+    where
+      power : {m n : ℕ} → 2 ^ m ≡ 2 ^ n → m ≡ n
+      power {m} {n} e = by (decLt m n) (decLt n m)
+        where
+          by : Dec (m < n) → Dec (n < m) → m ≡ n
+          by (yes l) g = absurd (omega (arith, pow-lt l))
+          by (no l) (yes g) = absurd (omega (arith, pow-lt g))
+          by (no l) (no g) = omega arith
+
+-- ---- desks
+-- what is seen after the start, and before
+first-seen : (a : Architecture) (c : List ℕ) (i : ℕ) (t : Composed) (ds : List ℕ) → shows a c i t ds ≡ face a c i t ∷ drop 1 (shows a c i t ds)
+unfolding shows
+first-seen a c i t [] = refl
+first-seen a c i t (d ∷ ds) = refl
+
+module _ {sheet book : List ℕ} {s : Sheet} {c : List ℕ} {i : ℕ} (z : AtDesk sheet book s c i) where
+  abbrev a : Architecture
+  a = s .architecture
+
+  abbrev m : ℕ
+  m = processNo (a .processes) i .outputs
+
+  system : InSystem a c i
+  system = record { is-proper = sheet-proper sheet s (z .is-proper) .architecture; tables = read-choice a book c (z .is-book) .0 .tables; known = z .known }
+
+  -- the face on a desk that holds u, where the label of u is answered
+  face-on : (k : Desk) (u : Composed) → onDesk a k ≡ u → IsState a u → faceOn i m (Shown.Label (label a c u)) k ≡ face a c i u ∷ []
+  unfolding faceOn onDesk face
+  face-on k u e w =
+      ap₂ (λ (x o : ℕ). record { state = x; outputs = o } ∷ [])
+      (sym (getD-take (length (a .processes)) (numbers (k .states)) i 0 (z .known)) ∙ ap (λ (t : Composed). getD (t .states) i 0) e)
+      (sym (label-outputs a (system .is-proper) c u i (system .tables) w (z .known)))
+
+  -- along a row of directions
+  abbrev Shows : Desk → List ℕ → Type 0
+  Shows k ds = showsOn sheet book i m k ds ≡ drop 1 (shows a c i (onDesk a k) (possible a ds))
+
+  shown : (k : Desk) (ds : List ℕ) → IsState a (onDesk a k) → Shows k ds
+  unfolding showsOn shows possible filter put
+  shown k [] w = refl
+  shown k (d ∷ ds) w = by (beyond d (a .environment)) refl (λ n. shown n ds)
+    where
+      by : (f : Bool) → beyond d (a .environment) ≡ f → ((n : Desk) → IsState a (onDesk a n) → Shows n ds) → Shows k (d ∷ ds)
+      by true e then =
+          ap (λ (r : Stepped). faceOn i m (r .answer) (r .desk) ++ showsOn sheet book i m (r .desk) ds) (call-refused sheet book s c (z .is-proper) (z .is-book) k d w e)
+          ∙ rw e (then k w)
+      by false e then =
+          let t = onDesk a k in
+          let u = step a c t d in
+          let n = stepOf sheet book k d .desk in
+          let call = call-taken sheet book s c (z .is-proper) (z .is-book) k d w e in
+          let state : IsState a u = step-in a c t d (system .tables) w (below-bit d (a .environment) e) in
+          let rest : showsOn sheet book i m n ds ≡ drop 1 (shows a c i u (possible a ds)) =
+          then n (subst (IsState a) (sym (call .1)) state) ∙ ap (λ (x : Composed). drop 1 (shows a c i x (possible a ds))) (call .1) in
+          ap₂ (λ (fs gs : List Face). fs ++ gs) (ap (λ (x : Shown). faceOn i m x n) (call .0) ∙ face-on n u (call .1) state) rest
+          ∙ sym (first-seen a c i u (possible a ds))
+          ∙ rw e refl
+
+  on-desk : (k : Desk) (ds : List ℕ) → showsOn sheet book i m (freshOf sheet k .desk) ds ≡ drop 1 (shows a c i (initial a) (possible a ds))
+  unfolding deskAfter after possible filter
+  on-desk k ds =
+      shown (freshOf sheet k .desk) ds (fresh-state sheet book s c (z .is-proper) (z .is-book) k)
+      ∙ ap (λ (t : Composed). drop 1 (shows a c i t (possible a ds))) (desk-shows sheet book s c (z .is-proper) (z .is-book) .shows k [])
+
+module _ {sheet book sheet′ book′ : List ℕ} {s s′ : Sheet} {c c′ : List ℕ} {i i′ : ℕ} (z : AtDesk sheet book s c i) (z′ : AtDesk sheet′ book′ s′ c′ i′) where
+  desks-same : let a = s .architecture in let a′ = s′ .architecture in rowTable a c i ≡ rowTable a′ c′ i′ → (k k′ : Desk) (ds ds′ : List ℕ)
+      → indexesRead a c i (initial a) (possible a ds) ≡ indexesRead a′ c′ i′ (initial a′) (possible a′ ds′)
+      → showsOn sheet book i (processNo (a .processes) i .outputs) (freshOf sheet k .desk) ds ≡ showsOn sheet′ book′ i′ (processNo (a′ .processes) i′ .outputs) (freshOf sheet′ k′ .desk) ds′
+  desks-same rows k k′ ds ds′ read =
+      on-desk z k ds ∙ ap (drop 1) (same-seen (system z) (system z′) rows (possible (s .architecture) ds) (possible (s′ .architecture) ds′) read) ∙ sym (on-desk z′ k′ ds′)
+
+-- ---- all of the promise
+-- the masks of a proper architecture are bytes
+inputs-few : {a : Architecture} {c : List ℕ} {i : ℕ} → InSystem a c i → processNo (a .processes) i .inputs < 256
+inputs-few {a} {i = i} z =
+    let good = z .is-proper .front in
+    omega (arith, good .processes-proper (processNo (a .processes) i) (list-has (a .processes) i nobody (z .known)) .inputs-known, pow-mono {i = a .variables} {j = 8} (good .few-variables))
+
+same-bits : {a a′ : Architecture} {c c′ : List ℕ} {i i′ : ℕ} → InSystem a c i → InSystem a′ c′ i′ → let m = processNo (a .processes) i .inputs in m ≡ processNo (a′ .processes) i′ .inputs
+    → (t t′ : Composed) (d d′ : ℕ) → (indexRead a c i t d ≡ indexRead a′ c′ i′ t′ d′) ↔ AgreeAt m (valuesRead a c i t d) (valuesRead a′ c′ i′ t′ d′)
+unfolding indexRead
+same-bits {a} {a′} {c} {c′} {i} {i′} z z′ e t t′ d d′ =
+    let w = valuesRead a′ c′ i′ t′ d′ in
+    let agree = pack-agrees (processNo (a .processes) i .inputs) (valuesRead a c i t d) w (inputs-few z) in
+    let same = ap (λ (n : ℕ). pack n w) e in
+    (λ h. agree .0 (h ∙ sym same), λ h. agree .1 h ∙ same)
+
+pub all-information : information
+all-information = record {
+  acts-alone = acts-alone;
+  same-seen = same-seen;
+  same-shape = same-shape;
+  same-bits = same-bits;
+  really-read = λ {a} {c} {i} z n d ln ld. read-by-label a (z .is-proper) i (z .known) c (composed a n) d (z .tables) (composed-in a n (z .is-proper)) ld;
+  in-label = λ {a} {c} {i} z n ln. label-outputs a (z .is-proper) c (composed a n) i (z .tables) (composed-in a n (z .is-proper)) (z .known);
+  on-desk = on-desk;
+  desks-same = desks-same;
+  same-packed = same-packed;
+  tied-same = λ {a} {c} {i} {j} z z′ keeps chain ds ds′ read.
+      let shape = chain-shape (a .processes) (z .is-proper .front .ties-proper) chain in
+      same-packed z z′ (shape .bounds) (shape .inputs) (chained a c keeps i j chain) ds ds′ read;
+}
