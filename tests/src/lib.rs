@@ -33,6 +33,7 @@ pub mod random_sheets;
 pub mod random_ties;
 pub mod rejecting_loops;
 pub mod rng;
+pub mod shared_tables;
 pub mod single_faults;
 
 // The library, and what a comparison with it needs.

@@ -34,6 +34,15 @@ impl EntryValues {
 pub fn entries(rng: &mut Rng, proper: &ProperSheet) -> Vec<u8> {
     let any = EntryValues::Any;
     let values = *rng.pick(&[EntryValues::Least, EntryValues::Greatest, any, any]);
+    entries_with(rng, proper, values)
+}
+
+/// A choice's entries, each drawn by itself as far as ties allow.
+pub fn lively_entries(rng: &mut Rng, proper: &ProperSheet) -> Vec<u8> {
+    entries_with(rng, proper, EntryValues::Any)
+}
+
+fn entries_with(rng: &mut Rng, proper: &ProperSheet, values: EntryValues) -> Vec<u8> {
     let rules = proper.entry_rules();
     let mut entries: Vec<u8> = rules.map(|rule| values.draw(rng, rule)).collect();
     if !proper.sheet.ties.is_empty() {

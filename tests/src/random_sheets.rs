@@ -151,7 +151,8 @@ pub fn proper_of_shape(rng: &mut Rng, shape: Shape) -> Sheet {
     with_processes(rng, shape, processes)
 }
 
-fn with_processes(rng: &mut Rng, shape: Shape, processes: Vec<Process>) -> Sheet {
+/// A proper sheet with these processes.
+pub fn with_processes(rng: &mut Rng, shape: Shape, processes: Vec<Process>) -> Sheet {
     let variables = shape.variables as u8;
     let environment = shape.environment as u8;
     let mut sheet = Sheet {

@@ -55,7 +55,8 @@ module _ (a : Architecture) (good : ProperArchitecture a) where
     pub read-by-label : (c : List ℕ) (t : Composed) (d : ℕ) → IsTables a c → IsState a t → d < 2 ^ a .environment → valuesRead a c k t d ≡ readBy a c t d k
     unfolding valuesRead readBy label present step entries
     read-by-label c t d tables state l =
-        reads-same p (bitOr d (present a c t)) new after (bits-same _ _ (λ i. bit-and new (p .prompts) i ∙ ⊎-elim (prompt i) (other i) (bool-cases (bit (p .prompts) i)) ∙ sym (bit-and after (p .prompts) i)))
+        reads-same p (bitOr d (present a c t)) new after
+        (bits-same _ _ (λ i. bit-and new (p .prompts) i ∙ ⊎-elim (prompt i) (other i) (bool-cases (bit (p .prompts) i)) ∙ sym (bit-and after (p .prompts) i)))
       where
         p : Process
         p = processNo (a .processes) k
@@ -73,7 +74,8 @@ module _ (a : Architecture) (good : ProperArchitecture a) where
         prompt i e =
             let below = within-bit (p .prompts) (outputsOf (take k (a .processes))) i (lower .prompts-lower) e in
             let same = lower-put-out c k 0 i tables (step-in a c t d tables state l .states-in) (good .front .outputs-apart) below in
-            ap (λ (b : Bool). b && bit (p .prompts) i) (same ∙ sym (bit-or d (outputs (a .processes) 0 c ys) i ∙ ap (λ (b : Bool). b || bit (outputs (a .processes) 0 c ys) i) (lower-free d l i below)))
+            let all = outputs (a .processes) 0 c ys in
+            ap (λ (b : Bool). b && bit (p .prompts) i) (same ∙ sym (bit-or d all i ∙ ap (λ (b : Bool). b || bit all i) (lower-free d l i below)))
 
         other : (i : ℕ) → bit (p .prompts) i ≡ false → (bit new i && bit (p .prompts) i) ≡ (bit after i && bit (p .prompts) i)
         other i e = rw (e, and-false (bit new i), and-false (bit after i))
@@ -92,7 +94,8 @@ unfolding composed valuesRead
 without-prompts a deaf c n d k l =
     let t = composed a n in
     let p = processNo (a .processes) k in
-    step-at a c t d k l (split-length (a .processes) _) ∙ ap (nextOf a c t k) (reads-none p (bitOr d (present a c t)) (outputs (take k (a .processes)) 0 c (step a c t d .states)) (deaf p (list-has (a .processes) k nobody l)))
+    let new = outputs (take k (a .processes)) 0 c (step a c t d .states) in
+    step-at a c t d k l (split-length (a .processes) _) ∙ ap (nextOf a c t k) (reads-none p (bitOr d (present a c t)) new (deaf p (list-has (a .processes) k nobody l)))
 
 pub all-prompted : (sheet : List ℕ) (s : Sheet) (is-proper : readSheet sheet ≡ proper s) → prompt-inputs sheet s is-proper
 all-prompted sheet s is-proper =

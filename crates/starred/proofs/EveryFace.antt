@@ -29,4 +29,5 @@ every-face = record {
   shown-single = refl;
   desk-P = refl;
   desk-single = refl;
+  desk-late = refl;
 }

@@ -76,3 +76,4 @@ pub record FacesPinned : Type 0 where
   -- on desks: the process's own place, its own bits of the label, and nothing where a direction is refused
   pub desk-P : showsOn (sheetP 0x02) bookP 1 0x04 (placed 0 0 7 6 0) (1 ∷ 0 ∷ 2 ∷ 1 ∷ []) ≡ seen 1 0x04 ∷ seen 0 0x00 ∷ seen 1 0x04 ∷ []
   pub desk-single : showsOn sheetSingle bookSingle 0 0x04 (placed 0 8 7 6 0) (2 ∷ 4 ∷ 1 ∷ 3 ∷ []) ≡ seen 1 0x04 ∷ seen 0 0x00 ∷ seen 1 0x04 ∷ []
+  pub desk-late : showsOn (sheetP 0x00) bookP 1 0x04 (placed 0 0 7 6 0) (1 ∷ 1 ∷ 0 ∷ []) ≡ seen 0 0x00 ∷ seen 1 0x04 ∷ seen 1 0x04 ∷ []
