@@ -30,7 +30,7 @@ const MOST_STEPS: u64 = 12;
 type Face = (u8, u8);
 
 /// A desk of the library, with the composed state that it should hold.
-struct Bench<'a> {
+struct SteppedDesk<'a> {
     system: &'a System,
     desk: Desk,
     composed: ComposedState,
@@ -39,12 +39,12 @@ struct Bench<'a> {
     heard: bool,
 }
 
-impl<'a> Bench<'a> {
+impl<'a> SteppedDesk<'a> {
     fn fresh(rng: &mut Rng, system: &'a System) -> Self {
         let mut desk = [(); DESK_LENGTH].map(|()| rng.byte());
         assert_eq!(ffi::fresh(&system.input.proper.bytes, &mut desk), 0);
         assert_eq!(desk[system.index], 0);
-        Bench {
+        SteppedDesk {
             system,
             desk,
             composed: system.machines.initial(),
@@ -127,7 +127,7 @@ struct Run {
 
 /// The first takes any directions, and the second those by which the process reads
 /// what it read in the first, while there are such.
-fn run_together(rng: &mut Rng, first: &mut Bench, second: &mut Bench) -> Run {
+fn run_together(rng: &mut Rng, first: &mut SteppedDesk, second: &mut SteppedDesk) -> Run {
     let mut run = Run::default();
     while run.steps < MOST_STEPS {
         first.sometimes_refuse(rng);
@@ -152,7 +152,11 @@ fn run_together(rng: &mut Rng, first: &mut Bench, second: &mut Bench) -> Run {
 
 /// One step more, by which the process reads something else in the second. None if
 /// no direction does that.
-fn differs_after_other_place(rng: &mut Rng, first: &mut Bench, second: &mut Bench) -> Option<bool> {
+fn differs_after_other_place(
+    rng: &mut Rng,
+    first: &mut SteppedDesk,
+    second: &mut SteppedDesk,
+) -> Option<bool> {
     let (direction, place) = *rng.pick(&first.places());
     let other = reading(rng, &second.places(), |read| read != place)?;
     Some(first.take(direction) != second.take(other))
@@ -209,8 +213,8 @@ fn a_process_acts_on_what_it_reads() {
     let mut rng = Rng::new(SEED);
     for _ in 0..PAIRS {
         let [first, second] = draw_pair(&mut rng);
-        let mut benches = [&first, &second].map(|system| Bench::fresh(&mut rng, system));
-        let [one, two] = &mut benches;
+        let mut desks = [&first, &second].map(|system| SteppedDesk::fresh(&mut rng, system));
+        let [one, two] = &mut desks;
         let run = run_together(&mut rng, one, two);
         tally.count(STEPS, run.steps);
         if run.steps < FEW_STEPS {
@@ -261,19 +265,21 @@ fn tied_processes_act_alike() {
         };
         let system = System::new(with_book(&mut rng, sheet), 0);
         let mut alike = tied_pairs(&system.machines.sheet);
-        let mut bench = Bench::fresh(&mut rng, &system);
+        let mut stepped = SteppedDesk::fresh(&mut rng, &system);
         for step in 1..=MOST_STEPS {
             let directions = 1 << system.machines.sheet.environment;
             let direction = rng.below(directions) as u8;
-            let (_, places) = system.machines.step_with_places(bench.composed, direction);
-            bench.take(direction);
+            let (_, places) = system
+                .machines
+                .step_with_places(stepped.composed, direction);
+            stepped.take(direction);
             for [left, right] in &alike {
-                let faces = [*left, *right].map(|index| packed_face(&bench, index));
+                let faces = [*left, *right].map(|index| packed_face(&stepped, index));
                 if places[*left] == places[*right] {
                     assert!(
                         faces[0] == faces[1],
                         "{left}, {right}: {faces:?}\n{}",
-                        bench.describe()
+                        stepped.describe()
                     );
                     tally.count(TIED_STEPS, step);
                 } else {
@@ -302,9 +308,9 @@ fn tied_pairs(sheet: &Sheet) -> Vec<[usize; 2]> {
 }
 
 /// The state of a process on the desk, and its outputs in rising order.
-fn packed_face(bench: &Bench, index: usize) -> Face {
-    let outputs = bench.system.machines.sheet.processes[index].outputs;
-    (bench.desk[index], packed(outputs, bench.label))
+fn packed_face(stepped: &SteppedDesk, index: usize) -> Face {
+    let outputs = stepped.system.machines.sheet.processes[index].outputs;
+    (stepped.desk[index], packed(outputs, stepped.label))
 }
 
 /// The two systems of the specification: the second process of P, which reads the

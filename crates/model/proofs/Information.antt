@@ -16,7 +16,7 @@ use Rattle.model.specs.declared.Desk.{Desk}
 use Rattle.model.specs.declared.Shown.{Shown}
 use Rattle.model.specs.declared.Stepped.{Stepped}
 use Rattle.model.specs.Mask.{beyond, count, pack}
-use Rattle.model.specs.Sheet.{Process, Architecture, Sheet, nobody, processNo}
+use Rattle.model.specs.Sheet.{Process, Architecture, Sheet, nobody, processNo, ProperProcess}
 use Rattle.model.specs.Compose.{Composed, rowLength, processLength, rowAt, label, step, initial, composed}
 use Rattle.model.specs.Choice.{entries, begins, lengthOf}
 use Rattle.model.specs.Desk.{numbers, onDesk, freshOf, stepOf, deskAfter, after, possible}
@@ -36,33 +36,42 @@ use Rattle.model.proofs.ActsAlone.{acts-alone}
 use Rattle.model.proofs.SamePacked.{same-packed, chain-shape}
 
 -- ---- two processes with the same rows
--- of one system: as many rows as states, and as long as its inputs ask for
+-- a process of one system is proper
 module _ {a : Architecture} {c : List ℕ} {i : ℕ} (z : InSystem a c i) where
   abbrev p : Process
   p = processNo (a .processes) i
 
-  some-state : 1 ≤ p .bound
-  some-state = z .is-proper .front .processes-proper p (list-has (a .processes) i nobody (z .known)) .some-state
+  own : ProperProcess (a .variables) (a .environment) p
+  own = z .is-proper .front .processes-proper p (list-has (a .processes) i nobody (z .known))
 
+  -- as many rows as states
   rows-many : length (rowTable a c i) ≡ p .bound
   unfolding rowTable
   rows-many = length-map (from (p .bound) 0) _ ∙ from-long (p .bound) 0
 
+  -- the first is as long as its inputs ask for
   first-long : length (getD (rowTable a c i) 0 []) ≡ rowLength p
   unfolding rowTable rowAt processLength entries
   first-long =
       let ps = a .processes in
       let row : ℕ → List ℕ = λ x. take (rowLength p) (drop (rowAt p (begins ps i) x) c) in
-      let own : rowLength p ≤ lengthOf ps i = omega (arith, length-is ps i (z .known), mul-le-mul-right (rowLength p) some-state) in
+      let inside : rowLength p ≤ lengthOf ps i = omega (arith, length-is ps i (z .known), mul-le-mul-right (rowLength p) (own .some-state)) in
       let there : begins ps i + (rowLength p - 1) < length c = omega (arith, fits-length (z .tables), place-inside ps i (rowLength p - 1) (z .known) (omega (arith, row-pos p))) in
-      ap length (map-from-at row (p .bound) 0 0 [] some-state)
+      ap length (map-from-at row (p .bound) 0 0 [] (own .some-state))
       ∙ length-take (rowLength p) (drop (begins ps i + 0 * rowLength p) c)
       ∙ omega (arith, length-drop (begins ps i + 0 * rowLength p) c, row-pos p)
 
+  -- its masks are bytes
+  inputs-few : p .inputs < 256
+  inputs-few = omega (arith, own .inputs-known, pow-mono {i = a .variables} {j = 8} (z .is-proper .front .few-variables))
+
+-- two of them
 module _ {a a′ : Architecture} {c c′ : List ℕ} {i i′ : ℕ} (z : InSystem a c i) (z′ : InSystem a′ c′ i′) (rows : rowTable a c i ≡ rowTable a′ c′ i′) where
+  -- where they read the same, the same is seen
   same-seen : (ds ds′ : List ℕ) → indexesRead a c i (initial a) ds ≡ indexesRead a′ c′ i′ (initial a′) ds′ → shows a c i (initial a) ds ≡ shows a′ c′ i′ (initial a′) ds′
   same-seen ds ds′ read = acts-alone z ds ∙ ap₂ (λ (table : List (List ℕ)) (ks : List ℕ). alone table 0 ks) rows read ∙ sym (acts-alone z′ ds′)
 
+  -- and they have one bound, and equally many inputs
   same-shape : let p = processNo (a .processes) i in let q = processNo (a′ .processes) i′ in (p .bound ≡ q .bound) × (count (p .inputs) ≡ count (q .inputs))
   unfolding rowLength
   same-shape = (sym (rows-many z) ∙ ap length rows ∙ rows-many z′, power (omega (arith, first-long z, first-long z′, ap (λ (r : List (List ℕ)). length (getD r 0 [])) rows)))
@@ -76,7 +85,7 @@ module _ {a a′ : Architecture} {c c′ : List ℕ} {i i′ : ℕ} (z : InSyste
           by (no l) (no g) = omega arith
 
 -- ---- desks
--- what is seen after the start, and before
+-- what is seen begins with the start
 first-seen : (a : Architecture) (c : List ℕ) (i : ℕ) (t : Composed) (ds : List ℕ) → shows a c i t ds ≡ face a c i t ∷ drop 1 (shows a c i t ds)
 unfolding shows
 first-seen a c i t [] = refl
@@ -89,6 +98,7 @@ module _ {sheet book : List ℕ} {s : Sheet} {c : List ℕ} {i : ℕ} (z : AtDes
   abbrev m : ℕ
   m = processNo (a .processes) i .outputs
 
+  -- the process is one of a system
   system : InSystem a c i
   system = record { is-proper = sheet-proper sheet s (z .is-proper) .architecture; tables = read-choice a book c (z .is-book) .0 .tables; known = z .known }
 
@@ -125,12 +135,14 @@ module _ {sheet book : List ℕ} {s : Sheet} {c : List ℕ} {i : ℕ} (z : AtDes
           ∙ sym (first-seen a c i u (possible a ds))
           ∙ rw e refl
 
+  -- from a fresh desk on
   on-desk : (k : Desk) (ds : List ℕ) → showsOn sheet book i m (freshOf sheet k .desk) ds ≡ drop 1 (shows a c i (initial a) (possible a ds))
   unfolding deskAfter after possible filter
   on-desk k ds =
       shown (freshOf sheet k .desk) ds (fresh-state sheet book s c (z .is-proper) (z .is-book) k)
       ∙ ap (λ (t : Composed). drop 1 (shows a c i t (possible a ds))) (desk-shows sheet book s c (z .is-proper) (z .is-book) .shows k [])
 
+-- so two desks show the same
 module _ {sheet book sheet′ book′ : List ℕ} {s s′ : Sheet} {c c′ : List ℕ} {i i′ : ℕ} (z : AtDesk sheet book s c i) (z′ : AtDesk sheet′ book′ s′ c′ i′) where
   desks-same : let a = s .architecture in let a′ = s′ .architecture in rowTable a c i ≡ rowTable a′ c′ i′ → (k k′ : Desk) (ds ds′ : List ℕ)
       → indexesRead a c i (initial a) (possible a ds) ≡ indexesRead a′ c′ i′ (initial a′) (possible a′ ds′)
@@ -138,13 +150,8 @@ module _ {sheet book sheet′ book′ : List ℕ} {s s′ : Sheet} {c c′ : Lis
   desks-same rows k k′ ds ds′ read =
       on-desk z k ds ∙ ap (drop 1) (same-seen (system z) (system z′) rows (possible (s .architecture) ds) (possible (s′ .architecture) ds′) read) ∙ sym (on-desk z′ k′ ds′)
 
--- ---- all of the promise
--- the masks of a proper architecture are bytes
-inputs-few : {a : Architecture} {c : List ℕ} {i : ℕ} → InSystem a c i → processNo (a .processes) i .inputs < 256
-inputs-few {a} {i = i} z =
-    let good = z .is-proper .front in
-    omega (arith, good .processes-proper (processNo (a .processes) i) (list-has (a .processes) i nobody (z .known)) .inputs-known, pow-mono {i = a .variables} {j = 8} (good .few-variables))
-
+-- ---- what is read
+-- the same index is the same value at each input
 same-bits : {a a′ : Architecture} {c c′ : List ℕ} {i i′ : ℕ} → InSystem a c i → InSystem a′ c′ i′ → let m = processNo (a .processes) i .inputs in m ≡ processNo (a′ .processes) i′ .inputs
     → (t t′ : Composed) (d d′ : ℕ) → (indexRead a c i t d ≡ indexRead a′ c′ i′ t′ d′) ↔ AgreeAt m (valuesRead a c i t d) (valuesRead a′ c′ i′ t′ d′)
 unfolding indexRead
@@ -154,6 +161,7 @@ same-bits {a} {a′} {c} {c′} {i} {i′} z z′ e t t′ d d′ =
     let same = ap (λ (n : ℕ). pack n w) e in
     (λ h. agree .0 (h ∙ sym same), λ h. agree .1 h ∙ same)
 
+-- ---- all of the promise
 pub all-information : information
 all-information = record {
   acts-alone = acts-alone;
