@@ -45,9 +45,9 @@ fn some_of(rng: &mut Rng, mask: u8) -> u8 {
     }
 }
 
-/// The inputs at these places.
-fn unpacked(inputs: u8, places: u8) -> u8 {
-    let variables = (0..8).zip(variables_of(inputs));
+/// The variables of the mask at these places.
+pub fn unpacked(mask: u8, places: u8) -> u8 {
+    let variables = (0..8).zip(variables_of(mask));
     let placed = variables.filter(|(place, _)| places >> place & 1 == 1);
     placed.fold(0, |mask, (_, variable)| mask | 1 << variable)
 }

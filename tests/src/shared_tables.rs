@@ -4,12 +4,12 @@
 use crate::book::book_of;
 use crate::proper_sheet::{ProperSheet, SheetAndBook};
 use crate::random_books;
-use crate::random_prompts::{add_prompts, any_of, outputs_below};
+use crate::random_prompts::{add_prompts, any_of, outputs_below, unpacked};
 use crate::random_sheets::{self, Shape};
 use crate::rng::Rng;
 use crate::sheet::{
-    mask_below, mask_of, variables_of, Process, Sheet, MOST_BOUND, MOST_COMPOSED, MOST_ENVIRONMENT,
-    MOST_INPUTS, MOST_PROCESSES, MOST_VARIABLES,
+    mask_below, mask_of, packed, variables_of, Process, Sheet, MOST_BOUND, MOST_COMPOSED,
+    MOST_ENVIRONMENT, MOST_INPUTS, MOST_PROCESSES, MOST_VARIABLES,
 };
 use crate::transition_system::{ComposedState, TransitionSystem};
 
@@ -17,6 +17,8 @@ use crate::transition_system::{ComposedState, TransitionSystem};
 pub struct SharedTable {
     /// All outputs that some row has.
     outputs: u8,
+    /// Whether the process may have outputs beside them.
+    has_more: bool,
     inputs: usize,
     bound: u8,
     entries: Vec<u8>,
@@ -25,8 +27,7 @@ pub struct SharedTable {
 impl SharedTable {
     /// Two states or more and an input or more, so that what is read can matter.
     pub fn draw(rng: &mut Rng) -> Self {
-        let variables = [(); 2].map(|()| 1 << rng.within(2, MOST_VARIABLES - 1));
-        let outputs = variables[0] | variables[1];
+        let outputs = any_outputs(rng);
         let inputs = *rng.pick(&[1, 1, 2, 2, 3, MOST_INPUTS as usize]);
         let bound = rng.within(2, MOST_BOUND) as u8;
         let mut entries = Vec::new();
@@ -36,9 +37,37 @@ impl SharedTable {
         }
         SharedTable {
             outputs,
+            has_more: true,
             inputs,
             bound,
             entries,
+        }
+    }
+
+    /// Two tables that are the same once their masks are packed: each process has
+    /// just the outputs that its rows have, other ones in the second.
+    pub fn draw_packed(rng: &mut Rng) -> [Self; 2] {
+        loop {
+            let mut table = SharedTable::draw(rng);
+            table.has_more = false;
+            let outputs = any_outputs(rng);
+            if outputs != table.outputs && outputs.count_ones() == table.outputs.count_ones() {
+                let moved = table.with_outputs(outputs);
+                return [table, moved];
+            }
+        }
+    }
+
+    /// The same with other outputs, equally many of them.
+    fn with_outputs(&self, outputs: u8) -> Self {
+        let mut entries = self.entries.clone();
+        for row in entries.chunks_mut(1 + (1 << self.inputs)) {
+            row[0] = unpacked(outputs, packed(self.outputs, row[0]));
+        }
+        SharedTable {
+            outputs,
+            entries,
+            ..*self
         }
     }
 
@@ -81,8 +110,14 @@ impl SharedTable {
         let all = mask_below(shape.variables as u8);
         let mut outputs = vec![0; shape.processes];
         outputs[index] = self.outputs;
+        let others: Vec<usize> = (0..shape.processes)
+            .filter(|number| self.has_more || *number != index)
+            .collect();
         for variable in variables_of(all & !mask_below(shape.environment as u8) & !self.outputs) {
-            outputs[rng.below(shape.processes)] |= 1 << variable;
+            if others.is_empty() {
+                return None;
+            }
+            outputs[*rng.pick(&others)] |= 1 << variable;
         }
         let heard = match prompted {
             true => any_of(rng, outputs[..index].iter().fold(0, |mask, own| mask | own)),
@@ -121,6 +156,12 @@ impl SharedTable {
         let book = book_of(&proper.layout, &entries);
         System::new(SheetAndBook { proper, book }, index)
     }
+}
+
+/// One output or two, above the two lowest variables.
+fn any_outputs(rng: &mut Rng) -> u8 {
+    let variables = [(); 2].map(|()| 1 << rng.within(2, MOST_VARIABLES - 1));
+    variables[0] | variables[1]
 }
 
 /// One process among those of a sheet and a book.

@@ -58,15 +58,29 @@ impl<'a> SteppedDesk<'a> {
         ffi::step(&proper.bytes, book, &mut self.desk, direction)
     }
 
-    /// A direction that is possible, and what the process shows after it.
-    fn take(&mut self, direction: u8) -> Face {
+    /// Takes a direction that is possible.
+    fn take(&mut self, direction: u8) {
         let number = self.step(direction);
         let label = number.checked_sub(65_536).expect("a possible direction");
         self.heard |= self.system.hears_promptly(self.composed, direction);
         self.composed = self.system.machines.step(self.composed, direction);
         self.label = label as u8;
+    }
+
+    /// What is seen of the process.
+    fn face(&self) -> Face {
         let outputs = self.system.process().outputs;
         (self.desk[self.system.index], self.label & outputs)
+    }
+
+    /// The same of any process, its outputs in rising order.
+    fn packed_face(&self, index: usize) -> Face {
+        let outputs = self.system.machines.sheet.processes[index].outputs;
+        (self.desk[index], packed(outputs, self.label))
+    }
+
+    fn own_packed_face(&self) -> Face {
+        self.packed_face(self.system.index)
     }
 
     /// Once in a while a direction that is not possible: nothing comes of it.
@@ -125,9 +139,17 @@ struct Run {
     places: BTreeSet<usize>,
 }
 
+/// How a process is seen.
+type Seen = fn(&SteppedDesk) -> Face;
+
 /// The first takes any directions, and the second those by which the process reads
 /// what it read in the first, while there are such.
-fn run_together(rng: &mut Rng, first: &mut SteppedDesk, second: &mut SteppedDesk) -> Run {
+fn run_together(
+    rng: &mut Rng,
+    seen: Seen,
+    first: &mut SteppedDesk,
+    second: &mut SteppedDesk,
+) -> Run {
     let mut run = Run::default();
     while run.steps < MOST_STEPS {
         first.sometimes_refuse(rng);
@@ -136,7 +158,9 @@ fn run_together(rng: &mut Rng, first: &mut SteppedDesk, second: &mut SteppedDesk
         let Some(same) = reading(rng, &second.places(), |read| read == place) else {
             break;
         };
-        let faces = [first.take(direction), second.take(same)];
+        first.take(direction);
+        second.take(same);
+        let faces = [seen(first), seen(second)];
         assert!(
             faces[0] == faces[1],
             "after place {place}: {faces:?}\n{}\n{}",
@@ -154,26 +178,45 @@ fn run_together(rng: &mut Rng, first: &mut SteppedDesk, second: &mut SteppedDesk
 /// no direction does that.
 fn differs_after_other_place(
     rng: &mut Rng,
+    seen: Seen,
     first: &mut SteppedDesk,
     second: &mut SteppedDesk,
 ) -> Option<bool> {
     let (direction, place) = *rng.pick(&first.places());
     let other = reading(rng, &second.places(), |read| read != place)?;
-    Some(first.take(direction) != second.take(other))
+    first.take(direction);
+    second.take(other);
+    Some(seen(first) != seen(second))
 }
 
-/// Two systems with one table, the process at another number and with other inputs
-/// in the second.
-fn draw_pair(rng: &mut Rng) -> [System; 2] {
+/// Two systems with these tables for one process, at another number and with other
+/// inputs in the second. None if what was drawn leaves no room for it.
+fn draw_pair(rng: &mut Rng, tables: [&SharedTable; 2]) -> Option<[System; 2]> {
+    let [first, second] = tables.map(|table| {
+        let prompted = rng.one_in(2);
+        table.system(rng, prompted)
+    });
+    let (first, second) = (first?, second?);
+    let differ = first.index != second.index && first.process().inputs != second.process().inputs;
+    differ.then_some([first, second])
+}
+
+/// The same rows in both.
+fn pair_with_rows(rng: &mut Rng) -> [System; 2] {
     loop {
         let table = SharedTable::draw(rng);
-        let prompted = [rng.one_in(2), rng.one_in(2)];
-        let [Some(first), Some(second)] = prompted.map(|prompted| table.system(rng, prompted))
-        else {
-            continue;
-        };
-        if first.index != second.index && first.process().inputs != second.process().inputs {
-            return [first, second];
+        if let Some(pair) = draw_pair(rng, [&table; 2]) {
+            return pair;
+        }
+    }
+}
+
+/// Other outputs in the second, and the same rows once their masks are packed.
+fn pair_with_packed_rows(rng: &mut Rng) -> [System; 2] {
+    loop {
+        let [table, moved] = SharedTable::draw_packed(rng);
+        if let Some(pair) = draw_pair(rng, [&table, &moved]) {
+            return pair;
         }
     }
 }
@@ -207,15 +250,16 @@ fn count_pair(tally: &mut Tally, first: &System, second: &System) {
     tally.count(ENVIRONMENTS, one * 10 + two);
 }
 
-#[test]
-fn a_process_acts_on_what_it_reads() {
+/// Steps pairs of systems side by side, and counts those with steps enough whose
+/// labels differ elsewhere and whose process read two places or more.
+fn step_pairs(pairs: u64, draw: fn(&mut Rng) -> [System; 2], seen: Seen) -> Tally {
     let mut tally = Tally::default();
     let mut rng = Rng::new(SEED);
-    for _ in 0..PAIRS {
-        let [first, second] = draw_pair(&mut rng);
+    for _ in 0..pairs {
+        let [first, second] = draw(&mut rng);
         let mut desks = [&first, &second].map(|system| SteppedDesk::fresh(&mut rng, system));
         let [one, two] = &mut desks;
-        let run = run_together(&mut rng, one, two);
+        let run = run_together(&mut rng, seen, one, two);
         tally.count(STEPS, run.steps);
         if run.steps < FEW_STEPS {
             continue;
@@ -225,26 +269,46 @@ fn a_process_acts_on_what_it_reads() {
         if run.others_differ && run.places.len() > 1 {
             count_pair(&mut tally, &first, &second);
             tally.count(HEARD, one.heard || two.heard);
-            if let Some(differs) = differs_after_other_place(&mut rng, one, two) {
+            if let Some(differs) = differs_after_other_place(&mut rng, seen, one, two) {
                 tally.count(DIFFERS, differs);
             }
         }
     }
-    tally.print("one process in two systems");
+    tally
+}
+
+/// So many pairs count, with prompt inputs, numbers, bounds and inputs of all kinds;
+/// and what is read matters.
+fn assert_pairs(tally: &Tally, least: u64) {
     let counted = tally.total(PROMPT);
-    assert!(counted >= 20_000, "{counted} pairs");
+    assert!(counted >= least, "{counted} pairs");
     assert!(3 * tally.seen(PROMPT, true) >= counted);
     assert!(5 * tally.seen(HEARD, true) >= counted);
     tally.assert_often(BOUND, 2..=4, counted / 10);
     tally.assert_often(INPUTS, 1..=3, counted / 50);
-    tally.assert_often(
-        NUMBERS,
-        [1, 2, 3, 10, 12, 13, 20, 21, 23, 30, 31, 32],
-        counted / 100,
-    );
-    tally.assert_often(SAME_OUTPUTS, [false, true], counted / 20);
+    let numbers = [1, 2, 3, 10, 12, 13, 20, 21, 23, 30, 31, 32];
+    tally.assert_often(NUMBERS, numbers, counted / 100);
     assert!(2 * tally.seen(DIFFERS, true) >= tally.total(DIFFERS));
     assert!(4 * tally.total(DIFFERS) >= counted);
+}
+
+#[test]
+fn a_process_acts_on_what_it_reads() {
+    let tally = step_pairs(PAIRS, pair_with_rows, |desk| desk.face());
+    tally.print("one process in two systems");
+    assert_pairs(&tally, 20_000);
+    tally.assert_often(SAME_OUTPUTS, [false, true], 1_000);
+}
+
+/// With other outputs it shows the same in rising order.
+#[test]
+fn a_process_with_other_outputs_acts_alike() {
+    let tally = step_pairs(PAIRS / 4, pair_with_packed_rows, |desk| {
+        desk.own_packed_face()
+    });
+    tally.print("one process in two systems, with other outputs");
+    assert_pairs(&tally, 4_000);
+    tally.assert_only(SAME_OUTPUTS, [false]);
 }
 
 /// Whether two tied processes differ, once they have read something else.
@@ -274,7 +338,7 @@ fn tied_processes_act_alike() {
                 .step_with_places(stepped.composed, direction);
             stepped.take(direction);
             for [left, right] in &alike {
-                let faces = [*left, *right].map(|index| packed_face(&stepped, index));
+                let faces = [*left, *right].map(|index| stepped.packed_face(index));
                 if places[*left] == places[*right] {
                     assert!(
                         faces[0] == faces[1],
@@ -305,12 +369,6 @@ fn tied_pairs(sheet: &Sheet) -> Vec<[usize; 2]> {
     let inputs = |index: usize| sheet.processes[index].inputs;
     pairs.retain(|[left, right]| inputs(*left) != inputs(*right));
     pairs
-}
-
-/// The state of a process on the desk, and its outputs in rising order.
-fn packed_face(stepped: &SteppedDesk, index: usize) -> Face {
-    let outputs = stepped.system.machines.sheet.processes[index].outputs;
-    (stepped.desk[index], packed(outputs, stepped.label))
 }
 
 /// The two systems of the specification: the second process of P, which reads the

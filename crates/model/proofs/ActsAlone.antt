@@ -4,14 +4,14 @@ use mathlib.Core.List.{List, [], _∷_}
 use Prim.Native.Nat.{ℕ, suc, _+_, _<_}
 use native.Mathlib.Nat.{zero-add, add-zero}
 use native.Mathlib.Omega.{arith}
-use lib.ListN.{length, getD, take, drop, List·getD-map}
+use lib.ListN.{length, getD, drop, List·getD-map}
 use lib.Seq.{getD-take, getD-drop}
 use Rattle.theory.proofs.ListLaws.{map-from-at}
 use Rattle.model.specs.Sheet as Sheet
 use Rattle.model.specs.Sheet.{Architecture, processNo}
 use Rattle.model.specs.Compose.{Composed, rowLength, rowAt, step, initial}
 use Rattle.model.specs.Choice.{entries, begins}
-use Rattle.model.specs.Information.{rowTable, valuesRead, indexRead, indexesRead, Face, face, shows, faceIn, alone}
+use Rattle.model.specs.Information.{rowOf, rowTable, valuesRead, indexRead, indexesRead, Face, face, shows, faceIn, alone}
 use Rattle.model.specs.Demands.{nextOf, InSystem}
 use Rattle.model.proofs.ComposedNumbers.{InBounds, in-length, in-at, index-inside, row-pos, moves-in, initial-in}
 use Rattle.model.proofs.MovesInTurn.{step-at}
@@ -27,7 +27,7 @@ module _ (a : Architecture) (c : List ℕ) (i : ℕ) where
   unfolding rowTable
   entry-is x j lx lj =
       let p = processNo (a .processes) i in
-      let row : ℕ → List ℕ = λ y. take (rowLength p) (drop (rowAt p (begins (a .processes) i) y) c) in
+      let row = rowOf p (begins (a .processes) i) c in
       ap (λ (r : List ℕ). getD r j 0) (map-from-at row (p .bound) 0 x [] lx ∙ ap row (zero-add x))
       ∙ getD-take (rowLength p) (drop (rowAt p (begins (a .processes) i) x) c) j 0 lj ∙ getD-drop (rowAt p (begins (a .processes) i) x) c j 0
 

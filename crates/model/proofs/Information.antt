@@ -8,7 +8,7 @@ use native.Mathlib.Nat.{mul-le-mul-right}
 use native.Mathlib.Omega.{arith}
 use native.Mathlib.Decide.{decLt}
 use lib.Pow.{pow-mono, pow-lt}
-use lib.ListN.{length, getD, take, drop, length-map, length-take, length-drop}
+use lib.ListN.{length, getD, drop, length-map, length-take, length-drop}
 use lib.Seq.{getD-take}
 use Rattle.theory.specs.Lists.{put, filter, from}
 use Rattle.theory.proofs.ListLaws.{list-has, from-long, map-from-at}
@@ -20,7 +20,7 @@ use Rattle.model.specs.Sheet.{Process, Architecture, Sheet, nobody, proc
 use Rattle.model.specs.Compose.{Composed, rowLength, processLength, rowAt, label, step, initial, composed}
 use Rattle.model.specs.Choice.{entries, begins, lengthOf}
 use Rattle.model.specs.Desk.{numbers, onDesk, freshOf, stepOf, deskAfter, after, possible}
-use Rattle.model.specs.Information.{rowTable, valuesRead, indexRead, indexesRead, Face, face, shows, alone, faceOn, showsOn}
+use Rattle.model.specs.Information.{rowOf, rowTable, valuesRead, indexRead, Face, face, shows, alone, faceOn, showsOn}
 use Rattle.model.specs.Demands.{InSystem, AtDesk, information}
 use Rattle.model.proofs.ProperSheet.{sheet-proper, below-bit}
 use Rattle.model.proofs.FitsTest.{fits-length}
@@ -54,10 +54,9 @@ module _ {a : Architecture} {c : List ℕ} {i : ℕ} (z : InSystem a c i) where
   unfolding rowTable rowAt processLength entries
   first-long =
       let ps = a .processes in
-      let row : ℕ → List ℕ = λ x. take (rowLength p) (drop (rowAt p (begins ps i) x) c) in
       let inside : rowLength p ≤ lengthOf ps i = omega (arith, length-is ps i (z .known), mul-le-mul-right (rowLength p) (own .some-state)) in
       let there : begins ps i + (rowLength p - 1) < length c = omega (arith, fits-length (z .tables), place-inside ps i (rowLength p - 1) (z .known) (omega (arith, row-pos p))) in
-      ap length (map-from-at row (p .bound) 0 0 [] (own .some-state))
+      ap length (map-from-at (rowOf p (begins ps i) c) (p .bound) 0 0 [] (own .some-state))
       ∙ length-take (rowLength p) (drop (begins ps i + 0 * rowLength p) c)
       ∙ omega (arith, length-drop (begins ps i + 0 * rowLength p) c, row-pos p)
 
@@ -65,13 +64,12 @@ module _ {a : Architecture} {c : List ℕ} {i : ℕ} (z : InSystem a c i) where
   inputs-few : p .inputs < 256
   inputs-few = omega (arith, own .inputs-known, pow-mono {i = a .variables} {j = 8} (z .is-proper .front .few-variables))
 
--- two of them
-module _ {a a′ : Architecture} {c c′ : List ℕ} {i i′ : ℕ} (z : InSystem a c i) (z′ : InSystem a′ c′ i′) (rows : rowTable a c i ≡ rowTable a′ c′ i′) where
-  -- where they read the same, the same is seen
-  same-seen : (ds ds′ : List ℕ) → indexesRead a c i (initial a) ds ≡ indexesRead a′ c′ i′ (initial a′) ds′ → shows a c i (initial a) ds ≡ shows a′ c′ i′ (initial a′) ds′
-  same-seen ds ds′ read = acts-alone z ds ∙ ap₂ (λ (table : List (List ℕ)) (ks : List ℕ). alone table 0 ks) rows read ∙ sym (acts-alone z′ ds′)
+-- what equal tables do alone, fed with the same
+both-alone : {table table′ : List (List ℕ)} {ks ks′ : List ℕ} {fs fs′ : List Face} → fs ≡ alone table 0 ks → fs′ ≡ alone table′ 0 ks′ → table ≡ table′ → ks ≡ ks′ → fs ≡ fs′
+both-alone one other rows read = one ∙ ap₂ (λ (t : List (List ℕ)) (is : List ℕ). alone t 0 is) rows read ∙ sym other
 
-  -- and they have one bound, and equally many inputs
+-- equal tables are for one bound, and equally many inputs
+module _ {a a′ : Architecture} {c c′ : List ℕ} {i i′ : ℕ} (z : InSystem a c i) (z′ : InSystem a′ c′ i′) (rows : rowTable a c i ≡ rowTable a′ c′ i′) where
   same-shape : let p = processNo (a .processes) i in let q = processNo (a′ .processes) i′ in (p .bound ≡ q .bound) × (count (p .inputs) ≡ count (q .inputs))
   unfolding rowLength
   same-shape = (sym (rows-many z) ∙ ap length rows ∙ rows-many z′, power (omega (arith, first-long z, first-long z′, ap (λ (r : List (List ℕ)). length (getD r 0 [])) rows)))
@@ -142,14 +140,6 @@ module _ {sheet book : List ℕ} {s : Sheet} {c : List ℕ} {i : ℕ} (z : AtDes
       shown (freshOf sheet k .desk) ds (fresh-state sheet book s c (z .is-proper) (z .is-book) k)
       ∙ ap (λ (t : Composed). drop 1 (shows a c i t (possible a ds))) (desk-shows sheet book s c (z .is-proper) (z .is-book) .shows k [])
 
--- so two desks show the same
-module _ {sheet book sheet′ book′ : List ℕ} {s s′ : Sheet} {c c′ : List ℕ} {i i′ : ℕ} (z : AtDesk sheet book s c i) (z′ : AtDesk sheet′ book′ s′ c′ i′) where
-  desks-same : let a = s .architecture in let a′ = s′ .architecture in rowTable a c i ≡ rowTable a′ c′ i′ → (k k′ : Desk) (ds ds′ : List ℕ)
-      → indexesRead a c i (initial a) (possible a ds) ≡ indexesRead a′ c′ i′ (initial a′) (possible a′ ds′)
-      → showsOn sheet book i (processNo (a .processes) i .outputs) (freshOf sheet k .desk) ds ≡ showsOn sheet′ book′ i′ (processNo (a′ .processes) i′ .outputs) (freshOf sheet′ k′ .desk) ds′
-  desks-same rows k k′ ds ds′ read =
-      on-desk z k ds ∙ ap (drop 1) (same-seen (system z) (system z′) rows (possible (s .architecture) ds) (possible (s′ .architecture) ds′) read) ∙ sym (on-desk z′ k′ ds′)
-
 -- ---- what is read
 -- the same index is the same value at each input
 same-bits : {a a′ : Architecture} {c c′ : List ℕ} {i i′ : ℕ} → InSystem a c i → InSystem a′ c′ i′ → let m = processNo (a .processes) i .inputs in m ≡ processNo (a′ .processes) i′ .inputs
@@ -165,13 +155,16 @@ same-bits {a} {a′} {c} {c′} {i} {i′} z z′ e t t′ d d′ =
 pub all-information : information
 all-information = record {
   acts-alone = acts-alone;
-  same-seen = same-seen;
+  same-seen = λ z z′ rows ds ds′ read. both-alone (acts-alone z ds) (acts-alone z′ ds′) rows read;
   same-shape = same-shape;
   same-bits = same-bits;
   really-read = λ {a} {c} {i} z n d ln ld. read-by-label a (z .is-proper) i (z .known) c (composed a n) d (z .tables) (composed-in a n (z .is-proper)) ld;
   in-label = λ {a} {c} {i} z n ln. label-outputs a (z .is-proper) c (composed a n) i (z .tables) (composed-in a n (z .is-proper)) (z .known);
   on-desk = on-desk;
-  desks-same = desks-same;
+  desks-same = λ {s = s} {s′} z z′ rows k k′ ds ds′ read.
+      on-desk z k ds
+      ∙ ap (drop 1) (both-alone (acts-alone (system z) (possible (s .architecture) ds)) (acts-alone (system z′) (possible (s′ .architecture) ds′)) rows read)
+      ∙ sym (on-desk z′ k′ ds′);
   same-packed = same-packed;
   tied-same = λ {a} {c} {i} {j} z z′ keeps chain ds ds′ read.
       let shape = chain-shape (a .processes) (z .is-proper .front .ties-proper) chain in

@@ -7,18 +7,22 @@ use Rattle.theory.specs.Lists.{from}
 use Rattle.model.specs.declared.Desk.{Desk}
 use Rattle.model.specs.declared.Shown.{Shown}
 use Rattle.model.specs.Mask.{pack}
-use Rattle.model.specs.Sheet.{Architecture, processNo}
+use Rattle.model.specs.Sheet.{Process, Architecture, processNo}
 use Rattle.model.specs.Compose.{Composed, rowLength, rowAt, outputs, reads, present, step}
 use Rattle.model.specs.Choice.{begins}
 use Rattle.model.specs.Desk.{numbers, stepOf}
 
 -- ---- the table of a process
--- the rows of process i, states rising: each an output mask, and the next states by their indexes
+-- the row of p for state x, if its entries begin at `at`: an output mask, and the next states by their indexes
+abbrev pub rowOf : Process → ℕ → List ℕ → ℕ → List ℕ
+rowOf p at c x = take (rowLength p) (drop (rowAt p at x) c)
+
+-- the rows of process i, states rising
 unfoldable pub rowTable : Architecture → List ℕ → ℕ → List (List ℕ)
 unfolding from rowLength rowAt begins
 rowTable a c i =
     let p = processNo (a .processes) i in
-    map (λ x. take (rowLength p) (drop (rowAt p (begins (a .processes) i) x) c)) (from (p .bound) 0)
+    map (rowOf p (begins (a .processes) i) c) (from (p .bound) 0)
 
 -- ---- what it reads
 -- the values that process i reads in the step of t by direction d: prompt inputs as the lower processes put them out once they have stepped, all others from before the step

@@ -1,20 +1,17 @@
 -- Texts of numbers, of processes and the rows of their tables, and of edges, one behind another. These are definitions.
 use mathlib.Core.List.{List, [], _∷_, _++_}
 use Prim.Native.Nat.{ℕ, zero, suc, _+_}
-use lib.ListN.{take, drop}
 use Rattle.model.specs.Mask.{if}
 use Rattle.model.specs.Sheet.{Process, Edge}
-use Rattle.model.specs.Compose.{rowLength, processLength, rowAt}
+use Rattle.model.specs.Compose.{processLength}
+-- the row of state x, where the entries of its process p begin at `at`
+pub use Rattle.model.specs.Information.{rowOf}
 use Rattle.template.specs.Template.{filled}
 
 -- n numbers from x on, where `one` has the text of a number
 unfoldable pub eachFrom : (ℕ → List ℕ) → ℕ → ℕ → List ℕ
 eachFrom one zero x = []
 eachFrom one (suc n) x = one x ++ eachFrom one n (suc x)
-
--- the row of state x, where the entries of its process p begin at `at`
-abbrev pub rowOf : Process → ℕ → List ℕ → ℕ → List ℕ
-rowOf p at c x = take (rowLength p) (drop (rowAt p at x) c)
 
 -- the rows of p, where `one` has the text of a state's row
 abbrev pub eachRow : (ℕ → List ℕ → List ℕ) → Process → ℕ → List ℕ → List ℕ

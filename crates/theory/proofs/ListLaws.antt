@@ -211,6 +211,7 @@ list-has [] k d h = absurd (omega arith)
 list-has (x ∷ xs) zero d h = List·Memᴰ·head refl
 list-has (x ∷ xs) (suc k) d h = List·Memᴰ·tail (list-has xs k d (omega arith))
 
+-- an element of what a function makes of a list
 pub map-there : {A : Type 0} (h : ℕ → A) (xs : List ℕ) (i : ℕ) (d : A) → i < length xs → getD (map h xs) i d ≡ h (getD xs i 0)
 map-there h [] i d l = absurd (omega arith)
 map-there h (x ∷ xs) zero d l = refl
@@ -282,11 +283,13 @@ from-has (suc n) i x l h = by (ℕ-discrete x i) (λ a b. from-has n (suc i) x a
     by (yes e) ih = List·Memᴰ·head e
     by (no d) ih = List·Memᴰ·tail (ih (omega arith) (omega arith))
 
+-- as many as asked for
 pub from-long : (n i : ℕ) → length (from n i) ≡ n
 unfolding from
 from-long zero i = refl
 from-long (suc n) i = ap suc (from-long n (suc i))
 
+-- each by its number
 pub from-at : (n i j : ℕ) → j < n → getD (from n i) j 0 ≡ i + j
 unfolding from
 from-at zero i j l = absurd (omega arith)

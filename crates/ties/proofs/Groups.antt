@@ -1,11 +1,12 @@
 -- Settling a whole group keeps the ties, and so does opening it: what the search needs of ties.
 use mathlib.Core.Path.{_≡_, refl, sym, ap, _∙_, subst}
 use mathlib.Core.Bool.{true}
-use mathlib.Core.List.{List, [], _∷_, List·Memᴰ, List·Memᴰ·head, List·Memᴰ·tail}
+use mathlib.Core.List.{List, [], _∷_}
 use Prim.Native.Nat.{ℕ, zero, suc, _+_, _*_, _/_, _%_, _≤_, _<_}
 use native.Mathlib.Omega.{arith}
 use native.Mathlib.Decide.{ℕ-discrete}
 use lib.ListN.{length, getD, replicate, getD-replicate}
+use Rattle.theory.proofs.ListLaws.{list-has}
 use Rattle.model.specs.Mask.{packed, pack}
 use Rattle.model.specs.Sheet.{Architecture, ProperTies, ProperArchitecture}
 use Rattle.model.specs.Choice.{Entry, output, next, may, entries, Fits, done, also, packedValue, entryAt, packedAt, IsTables, IsChoice}
@@ -27,11 +28,6 @@ fits-places [] (v ∷ c) d l f = absurd (omega arith)
 fits-places (e ∷ es) [] d l f = absurd (omega arith)
 fits-places (e ∷ es) (v ∷ c) d l f = also (f 0 (omega arith)) (fits-places es c d (omega arith) (λ i h. f (suc i) (omega arith)))
 
-every-at : (P : Entry → Type 0) (es : List Entry) (d : Entry) → ((e : Entry) → List·Memᴰ e es → P e) → (k : ℕ) → k < length es → P (getD es k d)
-every-at P [] d h k l = absurd (omega arith)
-every-at P (e ∷ es) d h zero l = h e (List·Memᴰ·head refl)
-every-at P (e ∷ es) d h (suc k) l = every-at P es d (λ x m. h x (List·Memᴰ·tail m)) k (omega arith)
-
 -- ---- zeros
 packed-zero : (k m : ℕ) → packed k m 0 ≡ 0
 unfolding packed
@@ -52,10 +48,11 @@ module _ (a : Architecture) (good : ProperArchitecture a) where
   ls = entryLeaders a
 
   pub small : (k : ℕ) → k < length (entries a) → Small (entryAt a k)
-  small = every-at Small (entries a) (next 0) (entries-small a good)
+  small k l = entries-small a good _ (list-has (entries a) k (next 0) l)
 
   may-zero : (k : ℕ) → k < length (entries a) → may (entryAt a k) 0 ≡ true
-  may-zero = every-at MayZero (entries a) (next 0) (entries-have MayZero a (λ p m. (output-zero (p .outputs), next-zero (p .bound) (good .front .processes-proper p m .some-state))))
+  may-zero k l =
+      entries-have MayZero a (λ p m. (output-zero (p .outputs), next-zero (p .bound) (good .front .processes-proper p m .some-state))) _ (list-has (entries a) k (next 0) l)
 
   -- ---- new values at a whole group
   module _ (f : ℕ → ℕ) (l : ℕ) (c : List ℕ) where
