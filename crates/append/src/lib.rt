@@ -1,4 +1,4 @@
-// Words written behind what was written: each function answers the index behind what it wrote.
+// Words and bytes written behind what was written: each function answers the index behind what it wrote.
 ghost use mathlib.Core.List.{_∷_, []};
 ghost use Prim.Native.Nat.{_+_, _<_, _≤_};
 ghost use lib.ListN.{length, replicate};
@@ -36,6 +36,29 @@ pub fn words(words: &mut [u16], at: usize, copied: &[u16]) -> usize
     while i < n {
         words[at + i] = copied[i];
         i += 1;
+    }
+    at + n
+}
+
+// One byte.
+pub fn put(text: &mut [u8], at: usize, byte: u8) -> usize
+    requires { ⌜ at < length (now text) ⌝ }
+    ensures { λ r. ⌜ Appends (now (text .entry)) at (byte ∷ []) r (now (text .exit)) ⌝ }
+{
+    text[at] = byte;
+    at + 1
+}
+
+// All bytes of a slice.
+pub fn put_bytes(text: &mut [u8], at: usize, bytes: &[u8]) -> usize
+    requires { ⌜ at + length (now bytes) ≤ length (now text) ⌝ }
+    ensures { λ r. ⌜ Appends (now (text .entry)) at (now (bytes .entry)) r (now (text .exit)) ⌝ }
+{
+    let n = bytes.len();
+    let mut j: usize = 0;
+    while j < n {
+        text[at + j] = bytes[j];
+        j += 1;
     }
     at + n
 }

@@ -42,7 +42,7 @@ pub fn write_for(a: Architecture, tables: &[u8; 272], book: &mut [u8]) -> Reply
     let mut slots = [0u16; 338];
     let n = layout::fill_slots(&mut slots, a);
     if book.len() < n {
-        return Reply::Refused(Refusal::BookBufferTooShort);
+        return Reply::Refused(Refusal::BufferTooShort);
     }
     put_bytes(book, &slots, n, tables);
     Reply::Done

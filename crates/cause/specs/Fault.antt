@@ -9,7 +9,7 @@ use Rattle.model.specs.declared.Reply.{Reply}
 use Rattle.model.specs.Calls.{checkOf}
 use Rattle.model.specs.Numbers.{number}
 
--- refused with 2 to 7 or 15: a whole record is at fault, whatever follows it
+-- refused with 2 to 7, 15 or 21: a whole record is at fault, whatever follows it
 unfoldable pub faulty : Reply → Bool
 faulty Reply.Done = false
 faulty (Reply.Refused r) = ltb 1 (number r)

@@ -49,7 +49,7 @@ fn say_cause(refusal: Refusal) {
         ),
         Refusal::BadAutomaton => say(b"a field of AU is outside the rules"),
         Refusal::BadEdge => say(b"a field of an ED or EX is outside the rules"),
-        Refusal::BookBufferTooShort => say(b"the book buffer is too short"),
+        Refusal::BufferTooShort => say(b"the buffer for the book or the sheet is too short"),
         Refusal::AnnotationBufferTooShort => say(b"the annotation is too short"),
         Refusal::BadBook => say(b"the book has the wrong length, or a byte other than the one due"),
         Refusal::BadEntry => say(b"an entry has a value that it may not have, or a tie is broken"),
@@ -58,6 +58,10 @@ fn say_cause(refusal: Refusal) {
         Refusal::BadDirectionOrDesk => say(b"the direction or the desk does not fit the sheet"),
         Refusal::BadTie => say(
             b"an SY names a process that there is not, one process twice, or two that do not match",
+        ),
+        Refusal::FrontsDiffer => say(b"the records before AU are not those of the first sheet"),
+        Refusal::JoinTooLarge => say(
+            b"joined with the first sheet there are more than 16 states or 64 edges",
         ),
         Refusal::BadPrompt => say(
             b"a prompt input of a PM is no input, or no output of a lower process",
@@ -99,16 +103,21 @@ fn culprit(number: u32) -> usize {
     2
 }
 
-// The line for a refusal.
-pub fn explain(refusal: Refusal, sheet: &[u8]) {
+// The line for a refusal for which the file that argument i names is at fault.
+fn explain_file(i: usize, refusal: Refusal, sheet: &[u8]) {
     let number = refusal.number();
-    input::print_name(culprit(number));
+    input::print_name(i);
     say(b": ");
     say_cause(refusal);
     if is_of_sheet(number) {
         say_place(number, sheet);
     }
     say(b"\n");
+}
+
+// The line for a refusal.
+pub fn explain(refusal: Refusal, sheet: &[u8]) {
+    explain_file(culprit(refusal.number()), refusal, sheet);
 }
 
 // The line for a sheet that is refused; none for a proper one.
@@ -125,5 +134,14 @@ pub fn explain_book(sheet: &[u8], book: &[u8]) {
     let answer = reading.answer;
     if let Reply::Refused(refusal) = answer {
         explain(refusal, sheet);
+    }
+}
+
+// The line for two sheets that are not joined: the first is at fault only by itself.
+pub fn explain_joining(refusal: Refusal, first: &[u8], second: &[u8]) {
+    let reply = planner::check(first);
+    match reply {
+        Reply::Refused(_) => explain_file(1, refusal, first),
+        Reply::Done => explain_file(2, refusal, second),
     }
 }

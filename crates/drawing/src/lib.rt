@@ -12,12 +12,12 @@ ghost use Rattle.sheet.specs.Struct.{IsProper as Proper, sheetOf};
 ghost use Rattle.append.specs.Appends.{Appends};
 ghost use Rattle.template.specs.Holds.{Holds};
 ghost use Rattle.drawing.specs.Drawing as spec;
+use append::put_bytes;
 use architecture::Architecture;
 use automaton::Automaton;
 use model::AutomatonState;
 use model::ProcessState;
 use sheet::Sheet;
-use template::put_bytes;
 use template::put_filled;
 
 // ---- the automaton: each function that puts something answers the index behind it

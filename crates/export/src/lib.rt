@@ -1,8 +1,8 @@
-// The public calls for C and Rust (include/soclethyme.h): an answer is 0 for the good one, 256 for the other finding, otherwise the refusal's number. A label
-// or a part of a book is above all of these.
+// The public calls for C and Rust (include/soclethyme.h): an answer is 0 for the good one, 256 for the other finding, otherwise the refusal's number. A label,
+// the length of a sheet or a part of a book is above all of these.
 ghost use mathlib.Core.Path.{_≡_};
-ghost use Rattle.model.specs.Numbers.{replyCode, findingCode, verdictCode, outcomeCode, shownCode};
-ghost use Rattle.model.specs.Calls.{checkOf, findOf, writeOf, readOf, partOf, judgeOf, annotateOf};
+ghost use Rattle.model.specs.Numbers.{replyCode, findingCode, verdictCode, outcomeCode, shownCode, writtenCode};
+ghost use Rattle.model.specs.Calls.{checkOf, findOf, writeOf, readOf, partOf, judgeOf, annotateOf, joinOf};
 ghost use Rattle.model.specs.Desk.{freshOf, stepOf};
 ghost use Rattle.export.specs.After.{tablesAfter, partCode, RunAfter, deskOf, bytesOf};
 use model::Desk;
@@ -12,6 +12,7 @@ use model::ProcessState;
 use model::Reply;
 use model::Shown;
 use model::Verdict;
+use model::Written;
 
 fn reply_code(reply: Reply) -> u32
     ensures { λ r. ⌜ r ≡ replyCode reply ⌝ }
@@ -56,6 +57,15 @@ fn shown_code(shown: Shown) -> u32
     match shown {
         Shown::Refused(refusal) => refusal.number(),
         Shown::Label(label) => 65536 + label as u32,
+    }
+}
+
+fn written_code(written: Written) -> u32
+    ensures { λ r. ⌜ r ≡ writtenCode written ⌝ }
+{
+    match written {
+        Written::Refused(refusal) => refusal.number(),
+        Written::Length(length) => 65536 + length as u32,
     }
 }
 
@@ -201,4 +211,12 @@ pub extern "C" fn soclethyme_step(
     *desk = bytes_of(next.desk);
     let answer = next.answer;
     shown_code(answer)
+}
+
+#[no_mangle]
+pub extern "C" fn soclethyme_join(first: &[u8], second: &[u8], sheet: &mut [u8]) -> u32
+    ensures { λ r. ⌜ r ≡ writtenCode (joinOf (now (first .entry)) (now (second .entry)) (now (sheet .entry)) .answer) ⌝ }
+    ensures { λ _. ⌜ now (sheet .exit) ≡ joinOf (now (first .entry)) (now (second .entry)) (now (sheet .entry)) .sheet ⌝ }
+{
+    written_code(planner::join(first, second, sheet))
 }

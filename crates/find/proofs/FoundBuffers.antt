@@ -8,7 +8,7 @@ use lib.ListN.{length, take, drop, replicate}
 use lib.Seq.{take-at}
 use borrow.Author.Tests.{le-ltb}
 use Rattle.model.specs.declared.Refusal.{Refusal}
-use Rattle.model.specs.declared.Refusal.the-variants.{BookBufferTooShort, AnnotationBufferTooShort}
+use Rattle.model.specs.declared.Refusal.the-variants.{BufferTooShort, AnnotationBufferTooShort}
 use Rattle.model.specs.declared.Outcome.{Outcome}
 use Rattle.model.specs.Reading as model
 use Rattle.model.specs.Sheet.{Architecture, Sheet, ProperSheet}
@@ -135,7 +135,7 @@ not-refused : (b old-book old-ann : List ℕ) (s : Sheet) → findSheet b old-bo
 unfolding findSheet roomToFind
 not-refused b old-book old-ann s e =
     let h₁ = goes-on (readSheet b) _ e in
-    let h₂ = passes BookBufferTooShort (bookShort (h₁ .0 .architecture) old-book) _ (h₁ .2) in
+    let h₂ = passes BufferTooShort (bookShort (h₁ .0 .architecture) old-book) _ (h₁ .2) in
     let h₃ = passes AnnotationBufferTooShort (annotationShort (h₁ .0) old-ann) _ (h₂ .1) in
     h₁ .1 ∙ h₃ .1
 

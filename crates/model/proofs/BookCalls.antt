@@ -6,7 +6,7 @@ use native.Mathlib.Omega.{arith}
 use lib.ListN.{length, take, drop, replicate, length-append}
 use lib.Seq.{take-at}
 use borrow.Author.Tests.{le-ltb, ltb-false}
-use Rattle.model.specs.declared.Refusal.the-variants.{BookBufferTooShort, BadEntry}
+use Rattle.model.specs.declared.Refusal.the-variants.{BufferTooShort, BadEntry}
 use Rattle.model.specs.declared.Reply.{Reply}
 use Rattle.model.specs.Sheet.{Process, Architecture, Sheet}
 use Rattle.model.specs.Reading.{Reading, refused, proper, refuse_when_else_, readSheet}
@@ -39,20 +39,20 @@ module _ (a : Architecture) where
   -- of tables with a choice at the front the tests pass, where there is room
   fitting : (tables book : List ℕ) → IsChoice a (chosen a tables) → bookLength a ≤ length book → writtenFor a tables book ≡ proper (bookOf a (chosen a tables))
   unfolding writtenFor bookShort
-  fitting tables book choice l = go BadEntry _ (chosen-faultless a tables choice) ∙ go BookBufferTooShort _ (le-ltb _ _ l) ∙ ap proper (book-chosen tables)
+  fitting tables book choice l = go BadEntry _ (chosen-faultless a tables choice) ∙ go BufferTooShort _ (le-ltb _ _ l) ∙ ap proper (book-chosen tables)
 
   fitted : (tables book new : List ℕ) → writtenFor a tables book ≡ proper new → IsChoice a (chosen a tables) × (bookLength a ≤ length book)
   unfolding writtenFor bookShort
   fitted tables book new e =
       let h₁ = passes BadEntry (entryFault a tables) _ e in
-      let h₂ = passes BookBufferTooShort (bookShort a book) _ (h₁ .1) in
+      let h₂ = passes BufferTooShort (bookShort a book) _ (h₁ .1) in
       (faultless-chosen a tables (h₁ .0), ltb-false _ _ (h₂ .0))
 
   -- what is behind the entries decides nothing
   written-chosen : (tables book : List ℕ) → writtenFor a tables book ≡ writtenFor a (chosen a tables) book
   unfolding writtenFor
   written-chosen tables book =
-      λ j. refuse BadEntry when fault-chosen a tables j else refuse BookBufferTooShort when bookShort a book else proper (book-chosen tables j)
+      λ j. refuse BadEntry when fault-chosen a tables j else refuse BufferTooShort when bookShort a book else proper (book-chosen tables j)
 
 module _ (sheet : List ℕ) (s : Sheet) (is-proper : readSheet sheet ≡ proper s) where
   -- ---- once the sheet is read

@@ -9,7 +9,7 @@ use native.Mathlib.Omega.{arith}
 use lib.ListN.{length}
 use borrow.Author.Tests.{ltb-true, ltb-false, lt-ltb, le-ltb, leb-true, leb-false, le-leb, lt-leb}
 use Rattle.model.specs.declared.Refusal.{Refusal}
-use Rattle.model.specs.declared.Refusal.the-variants.{BookBufferTooShort, AnnotationBufferTooShort, BadEntry, NoSuchProcess, PathBufferTooShort}
+use Rattle.model.specs.declared.Refusal.the-variants.{BufferTooShort, AnnotationBufferTooShort, BadEntry, NoSuchProcess, PathBufferTooShort}
 use Rattle.model.specs.declared.Verdict.{Verdict}
 use Rattle.model.specs.declared.Reply.{Reply}
 use Rattle.model.specs.declared.Outcome.{Outcome}
@@ -30,7 +30,7 @@ use Rattle.model.proofs.BookRead.{chosen-faultless, faultless-chosen, c
 -- ---- the answer is a refusal exactly when what was read is
 module _ (r : Refusal) where
   -- no other answer is a refusal, and what is read is none
-  neither : {A : Type 0} (a : A) {P : Type 0} → (P → ⊥) → P ↔ (proper a ≡ refused r)
+  pub neither : {A : Type 0} (a : A) {P : Type 0} → (P → ⊥) → P ↔ (proper a ≡ refused r)
   neither a n = (λ p. absurd (n p), λ e. absurd (refused≢proper r a (sym e)))
 
   pub check-answer : (k : Reading Sheet) → (reply k ≡ Reply.Refused r) ↔ (k ≡ refused r)
@@ -79,7 +79,7 @@ module _ (r : Refusal) where
 -- ---- find: 8, then 9
 find-tests : (sheet book ann : List ℕ) (r : Refusal) → findSheet sheet book ann ≡ refused r → FindRefused sheet book ann r
 unfolding findSheet roomToFind bookShort annotationShort
-find-tests sheet book ann r e = ⊎-elim (λ q. FindRefused.by-sheet r q) (λ h. room (h .0) (h .1) (refused-when BookBufferTooShort _ _ r (h .2))) (refused-then (readSheet sheet) _ r e)
+find-tests sheet book ann r e = ⊎-elim (λ q. FindRefused.by-sheet r q) (λ h. room (h .0) (h .1) (refused-when BufferTooShort _ _ r (h .2))) (refused-then (readSheet sheet) _ r e)
   where
     short : (s : Sheet) → readSheet sheet ≡ proper s → bookLength (s .architecture) ≤ length book
         → ((annotationShort s ann ≡ true) × (AnnotationBufferTooShort ≡ r)) ⊎ ((annotationShort s ann ≡ false) × (proper s ≡ refused r)) → FindRefused sheet book ann r
@@ -87,7 +87,7 @@ find-tests sheet book ann r e = ⊎-elim (λ q. FindRefused.by-sheet r q) (λ h.
     short s p l (inr h) = absurd (refused≢proper r s (sym (h .1)))
 
     room : (s : Sheet) → readSheet sheet ≡ proper s
-        → ((bookShort (s .architecture) book ≡ true) × (BookBufferTooShort ≡ r)) ⊎ ((bookShort (s .architecture) book ≡ false)
+        → ((bookShort (s .architecture) book ≡ true) × (BufferTooShort ≡ r)) ⊎ ((bookShort (s .architecture) book ≡ false)
         × (refuse_when_else_ AnnotationBufferTooShort (annotationShort s ann) (proper s) ≡ refused r)) → FindRefused sheet book ann r
     room s p (inl h) = subst (FindRefused sheet book ann) (h .1) (FindRefused.short-book s p (ltb-true _ _ (h .0)))
     room s p (inr h) = short s p (ltb-false _ _ (h .0)) (refused-when AnnotationBufferTooShort _ _ r (h .1))
@@ -95,8 +95,8 @@ find-tests sheet book ann r e = ⊎-elim (λ q. FindRefused.by-sheet r q) (λ h.
 tests-find : (sheet book ann : List ℕ) (r : Refusal) → FindRefused sheet book ann r → findSheet sheet book ann ≡ refused r
 unfolding findSheet roomToFind bookShort annotationShort
 tests-find sheet book ann r (FindRefused.by-sheet q e) = then-refused _ e
-tests-find sheet book ann r (FindRefused.short-book s e l) = then-read _ e ∙ stop BookBufferTooShort _ (lt-ltb _ _ l)
-tests-find sheet book ann r (FindRefused.short-annotation s e l m) = then-read _ e ∙ go BookBufferTooShort _ (le-ltb _ _ l) ∙ stop AnnotationBufferTooShort _ (lt-ltb _ _ m)
+tests-find sheet book ann r (FindRefused.short-book s e l) = then-read _ e ∙ stop BufferTooShort _ (lt-ltb _ _ l)
+tests-find sheet book ann r (FindRefused.short-annotation s e l m) = then-read _ e ∙ go BufferTooShort _ (le-ltb _ _ l) ∙ stop AnnotationBufferTooShort _ (lt-ltb _ _ m)
 
 -- ---- judge and annotate: 10, 11, then what the room for the answer is refused for
 -- the sheet and the book are read, and then it is refused
@@ -193,7 +193,7 @@ unfolding written writtenFor bookShort
 write-tests sheet tables book r e = ⊎-elim (λ q. WriteRefused.by-sheet r q) (λ h. fitting (h .0) (h .1) (refused-when BadEntry _ _ r (h .2))) (refused-then (readSheet sheet) _ r e)
   where
     short : (s : Sheet) → readSheet sheet ≡ proper s → IsChoice (s .architecture) (chosen (s .architecture) tables)
-        → ((bookShort (s .architecture) book ≡ true) × (BookBufferTooShort ≡ r)) ⊎ ((bookShort (s .architecture) book ≡ false) × (proper (bookOf (s .architecture) tables) ≡ refused r))
+        → ((bookShort (s .architecture) book ≡ true) × (BufferTooShort ≡ r)) ⊎ ((bookShort (s .architecture) book ≡ false) × (proper (bookOf (s .architecture) tables) ≡ refused r))
         → WriteRefused sheet tables book r
     short s p choice (inl h) = subst (WriteRefused sheet tables book) (h .1) (WriteRefused.short-book s p choice (ltb-true _ _ (h .0)))
     short s p choice (inr h) = absurd (refused≢proper r _ (sym (h .1)))
@@ -203,16 +203,16 @@ write-tests sheet tables book r e = ⊎-elim (λ q. WriteRefused.by-sheet r q) (
 
     fitting : (s : Sheet) → readSheet sheet ≡ proper s
         → ((entryFault (s .architecture) tables ≡ true) × (BadEntry ≡ r)) ⊎ ((entryFault (s .architecture) tables ≡ false)
-        × (refuse_when_else_ BookBufferTooShort (bookShort (s .architecture) book) (proper (bookOf (s .architecture) tables)) ≡ refused r)) → WriteRefused sheet tables book r
+        × (refuse_when_else_ BufferTooShort (bookShort (s .architecture) book) (proper (bookOf (s .architecture) tables)) ≡ refused r)) → WriteRefused sheet tables book r
     fitting s p (inl h) = subst (WriteRefused sheet tables book) (h .1) (WriteRefused.no-choice s p (misfit s (h .0)))
-    fitting s p (inr h) = short s p (faultless-chosen (s .architecture) tables (h .0)) (refused-when BookBufferTooShort _ _ r (h .1))
+    fitting s p (inr h) = short s p (faultless-chosen (s .architecture) tables (h .0)) (refused-when BufferTooShort _ _ r (h .1))
 
 tests-write : (sheet tables book : List ℕ) (r : Refusal) → WriteRefused sheet tables book r → written sheet tables book ≡ refused r
 unfolding written writtenFor bookShort
 tests-write sheet tables book r (WriteRefused.by-sheet q e) = then-refused _ e
 tests-write sheet tables book r (WriteRefused.no-choice s e n) = then-read _ e ∙ stop BadEntry _ (chosen-faulty (s .architecture) tables n)
 tests-write sheet tables book r (WriteRefused.short-book s e choice l) =
-    then-read _ e ∙ go BadEntry _ (chosen-faultless (s .architecture) tables choice) ∙ stop BookBufferTooShort _ (lt-ltb _ _ l)
+    then-read _ e ∙ go BadEntry _ (chosen-faultless (s .architecture) tables choice) ∙ stop BufferTooShort _ (lt-ltb _ _ l)
 
 -- ---- read: 10, 11
 read-tests : (sheet book : List ℕ) (r : Refusal) → (readSheet sheet then λ s. readBook (s .architecture) book) ≡ refused r → ReadRefused sheet book r

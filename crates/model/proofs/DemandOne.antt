@@ -22,11 +22,12 @@ use Rattle.model.specs.Reading.{Reading, refused, proper, readSheet}
 use Rattle.model.specs.Computed.{loops, firstChoice}
 use Rattle.model.specs.Calls.{Chosen, reply, checkOf, findSheet, findChoice, findIn, findOf, bookAndRooms, annotatedBy}
 use Rattle.model.specs.Calls.{annotated, annotateOf, AfterPath, pathLeft, PathBy, PathFor, AnnotatePath, written, wrote, writeOf, partArchitecture, cut, partOf, part}
-use Rattle.model.specs.Refusals.{BookRefused, not-formed, no-choice, Among, FindRefused, JudgeRefused, AnnotateRefused, WriteRefused, ReadRefused, PartRefused, StepRefused}
+use Rattle.model.specs.Refusals.{BookRefused, not-formed, no-choice, Among, FindRefused, JudgeRefused, AnnotateRefused, WriteRefused, ReadRefused, PartRefused, StepRefused, JoinRefused}
 use Rattle.model.specs.Demands.{demand-1}
 use Rattle.model.proofs.SheetNumbers.{early}
 use Rattle.model.proofs.CallRefusals.{check-answer, find-exactly, judge-exactly, annotate-exactly, write-exactly, read-exactly, part-exactly}
 use Rattle.model.proofs.DeskRefusals.{step-exactly, fresh-as-check, fresh-kept, step-kept}
+use Rattle.model.proofs.JoinRefusals.{join-exactly, join-kept}
 use Rattle.model.proofs.SheetClassified.{unfinished, begins-faulty}
 use Rattle.model.proofs.SheetClassified as classified
 use Rattle.model.proofs.SheetReads.{sheet-reads}
@@ -73,6 +74,13 @@ step-among : (sheet book : List ℕ) (k : Desk) (d : ℕ) (r : Refusal) → Step
 step-among sheet book k d r (StepRefused.by-sheet q e) = inl (early sheet r e)
 step-among sheet book k d r (StepRefused.by-book s q e h) = inr (book-among (s .architecture) book r (14 ∷ []) h)
 step-among sheet book k d r (StepRefused.misfit s c e f choice m) = inr (List·Memᴰ·tail (List·Memᴰ·tail (List·Memᴰ·head refl)))
+
+join-among : (first second sheet : List ℕ) (r : Refusal) → JoinRefused first second sheet r → Among (19 ∷ 20 ∷ 8 ∷ []) r
+join-among first second sheet r (JoinRefused.by-first q e) = inl (early first r e)
+join-among first second sheet r (JoinRefused.by-second s q e f) = inl (early second r f)
+join-among first second sheet r (JoinRefused.other-front s t e f n) = inr (List·Memᴰ·head refl)
+join-among first second sheet r (JoinRefused.too-large s t o n) = inr (List·Memᴰ·tail (List·Memᴰ·head refl))
+join-among first second sheet r (JoinRefused.short-sheet s t o fits l) = inr (List·Memᴰ·tail (List·Memᴰ·tail (List·Memᴰ·head refl)))
 
 -- ---- a sheet that is checked
 was-proper : (sheet : List ℕ) → checkOf sheet ≡ Reply.Done → (s : Sheet) × (readSheet sheet ≡ proper s)
@@ -164,6 +172,7 @@ first-demand = record {
   part-refusals = part-exactly;
   fresh-refusals = fresh-as-check;
   step-refusals = step-exactly;
+  join-refusals = join-exactly;
   check-numbers = λ sheet r e. inl (early sheet r (check-refused sheet r .0 e));
   find-numbers = λ sheet book ann r e. find-among sheet book ann r (find-exactly sheet book ann r .0 e);
   judge-numbers = λ sheet book ann r e. judge-among sheet book ann r (judge-exactly sheet book ann r .0 e);
@@ -172,6 +181,7 @@ first-demand = record {
   read-numbers = λ sheet book r e. read-among sheet book r (read-exactly sheet book r .0 e);
   part-numbers = λ sheet book i r e. part-among sheet book i r (part-exactly sheet book i r .0 e);
   step-numbers = λ sheet book k d r e. step-among sheet book k d r (step-exactly sheet book k d r .0 e);
+  join-numbers = λ first second sheet r e. join-among first second sheet r (join-exactly first second sheet r .0 e);
   find-refused = λ sheet book ann r e. find-kept (findSheet sheet book ann) book ann (Outcome.Refused r) e (refused≢tables r);
   annotate-refused = λ sheet book ann path r e. (
     annotate-kept (bookAndRooms sheet book ann path) ann (Verdict.Refused r) e (refused≢found r Yes),
@@ -181,6 +191,7 @@ first-demand = record {
   part-refused = λ sheet book i r e. part-kept (partArchitecture sheet book i) book i r e;
   fresh-refused = fresh-kept;
   step-refused = step-kept;
+  join-refused = join-kept;
   none-writes-nothing = λ sheet book ann e. find-kept (findSheet sheet book ann) book ann Outcome.Nothing e nothing≢tables;
   loop-leaves-annotation = λ sheet book ann path e. annotate-kept (bookAndRooms sheet book ann path) ann (Verdict.Found No) e no≢yes;
   no-loop-leaves-path = λ sheet book ann path after n p. path-kept (bookAndRooms sheet book ann path) ann path after n p;

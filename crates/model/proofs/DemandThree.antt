@@ -8,7 +8,7 @@ use native.Mathlib.Omega.{arith}
 use lib.ListN.{length, take, drop}
 use lib.Seq.{take-at}
 use borrow.Author.Tests.{not-false, ltb-false}
-use Rattle.model.specs.declared.Refusal.the-variants.{BookBufferTooShort, AnnotationBufferTooShort}
+use Rattle.model.specs.declared.Refusal.the-variants.{BufferTooShort, AnnotationBufferTooShort}
 use Rattle.model.specs.declared.Finding.the-variants.{Yes}
 use Rattle.model.specs.declared.Verdict.{Verdict}
 use Rattle.model.specs.declared.Outcome.{Outcome}
@@ -35,7 +35,7 @@ module _ (sheet book ann : List ℕ) (s : Sheet) (not-refused : findSheet sheet 
   unfolding findSheet roomToFind annotationShort
   unrefused =
       let h₁ = goes-on (readSheet sheet) _ not-refused in
-      let h₂ = passes BookBufferTooShort (bookShort (h₁ .0 .architecture) book) _ (h₁ .2) in
+      let h₂ = passes BufferTooShort (bookShort (h₁ .0 .architecture) book) _ (h₁ .2) in
       let h₃ = passes AnnotationBufferTooShort (annotationShort (h₁ .0) ann) _ (h₂ .1) in
       let e : h₁ .0 ≡ s = same (h₁ .0) s (h₃ .1) in
       (h₁ .1 ∙ ap proper e, subst (λ (x : Sheet). vertices x ≤ length ann) e (ltb-false _ _ (h₃ .0)))

@@ -18,6 +18,7 @@ use Rattle.model.specs.Reading.{Reading, refused, proper, byte, short, m
 use Rattle.model.specs.Reading.{AR, arFault, prFault, promptFault, tieFault, allFault, auFault, edFault, architectureAt, promptsAt, processAt, processSize, tieAt, edgeAt, Front}
 use Rattle.model.specs.Reading.{readEnd, readEdge, readEdges, readAutomaton, readProcess, readProcesses, readTie, readTies, readFront, readSheet, _then_}
 use Rattle.model.specs.SheetFile.{longestSheet}
+use Rattle.model.specs.Join.{joinBytes}
 use Rattle.model.specs.Calls.{reply, checkOf, findSheet, findOf}
 use Rattle.model.proofs.ProperSheet.{sizes, front-read, processes-end}
 
@@ -186,3 +187,7 @@ prefix b = ap reply (read-prefix b)
 pub find-prefix : (b book ann : List ℕ) → findOf (take enough b) book ann ≡ findOf b book ann
 unfolding findOf findSheet
 find-prefix b book ann = rw (read-prefix b)
+
+pub join-prefix : (first second : List ℕ) → joinBytes (take enough first) (take enough second) ≡ joinBytes first second
+unfolding joinBytes
+join-prefix first second = rw (read-prefix first, read-prefix second)

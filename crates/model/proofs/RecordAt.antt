@@ -2,7 +2,7 @@
 use mathlib.Core.Path.{_≡_, refl, sym, ap, ap₂, _∙_, subst}
 use mathlib.Core.Bool.{Bool, true, false, _&&_, _||_}
 use mathlib.Core.List.{List, [], _∷_, _++_, append-assoc}
-use Prim.Native.Nat.{ℕ, _+_, _≤_, _<_}
+use Prim.Native.Nat.{ℕ, _+_, _*_, _≤_, _<_}
 use native.Mathlib.Nat.{add-zero}
 use native.Mathlib.Omega.{arith}
 use lib.Dec.{eqb}
@@ -12,7 +12,7 @@ use borrow.Author.Tests.{lt-ltb, le-ltb}
 use Rattle.model.specs.Sheet.{Process, Tie, Edge}
 use Rattle.model.specs.Mask.{if}
 use Rattle.model.specs.Reading.{byte, short, marked, processMarked, edgeMarked, PR, PM, ED, EX, promptsAt, processAt, processSize, tieAt, edgeAt}
-use Rattle.model.specs.SheetFile.{processMark, processBytes, tieBytes, edgeMark, edgeBytes}
+use Rattle.model.specs.SheetFile.{processMark, processBytes, tieBytes, edgeMark, edgeBytes, edgesBytes}
 
 -- b has x from place i on
 pub record At (b : List ℕ) (i : ℕ) (x : List ℕ) : Type 0 where
@@ -39,6 +39,11 @@ edge-six e = ap (λ (m : List ℕ). m ++ (e .from ∷ e .to ∷ e .on ∷ e .off
 
 pub edge-long : (e : Edge) → length (edgeBytes e) ≡ 6
 edge-long e = ap length (edge-six e)
+
+pub edges-long : (es : List Edge) → length (edgesBytes es) ≡ 6 * length es
+unfolding edgesBytes
+edges-long [] = refl
+edges-long (e ∷ es) = omega (arith, length-append (edgeBytes e) (edgesBytes es), edge-long e, edges-long es)
 
 -- ---- a process is five bytes or six, and two of them are its mark
 process-mark-two : (prompted : Bool) → processMark prompted ≡ 0x50 ∷ byte (processMark prompted) 1 ∷ []

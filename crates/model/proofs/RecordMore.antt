@@ -13,7 +13,7 @@ use Rattle.model.specs.SheetFile.{processBytes, tieBytes, edgeBytes, sta
 use Rattle.model.proofs.ProperSheet.{edge-proper}
 
 -- ---- the processes
-processes-more : (ps : List Process) (p : Process) → processesBytes (ps ++ (p ∷ [])) ≡ processesBytes ps ++ processBytes p
+pub processes-more : (ps : List Process) (p : Process) → processesBytes (ps ++ (p ∷ [])) ≡ processesBytes ps ++ processBytes p
 unfolding processesBytes
 processes-more [] p = append-nil (processBytes p)
 processes-more (q ∷ ps) p = ap (λ (x : List ℕ). processBytes q ++ x) (processes-more ps p) ∙ sym (append-assoc (processBytes q) (processesBytes ps) (processBytes p))

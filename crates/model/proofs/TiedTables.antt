@@ -3,7 +3,7 @@ use mathlib.Core.Path.{_≡_, refl, sym, ap, _∙_}
 use mathlib.Core.List.{List}
 use Prim.Native.Nat.{ℕ}
 use native.Mathlib.Omega.{arith}
-use Rattle.model.specs.declared.Refusal.the-variants.{BookBufferTooShort, AnnotationBufferTooShort, BadEntry}
+use Rattle.model.specs.declared.Refusal.the-variants.{BufferTooShort, AnnotationBufferTooShort, BadEntry}
 use Rattle.model.specs.declared.Outcome.{Outcome}
 use Rattle.model.specs.Sheet.{Architecture, Sheet}
 use Rattle.model.specs.Reading.{Reading, refused, proper, readSheet}
@@ -36,7 +36,7 @@ module _ (sheet : List ℕ) (s : Sheet) (is-proper : readSheet sheet ≡ proper 
   unfolding findSheet roomToFind
   searched book ann x e =
       let h = goes-on (readSheet sheet) _ e in
-      let room = passes AnnotationBufferTooShort (annotationShort (h .0) ann) _ (passes BookBufferTooShort (bookShort (h .0 .architecture) book) _ (h .2) .1) .1 in
+      let room = passes AnnotationBufferTooShort (annotationShort (h .0) ann) _ (passes BufferTooShort (bookShort (h .0 .architecture) book) _ (h .2) .1) .1 in
       sym (same-proper (h .0) x room) ∙ same-proper (h .0) s (sym (h .1) ∙ is-proper)
 
   -- who gets tables was not refused

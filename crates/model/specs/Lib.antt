@@ -3,6 +3,7 @@ pub mod Mask
 pub mod Sheet
 pub mod Reading
 pub mod SheetFile
+pub mod Join
 pub mod Compose
 pub mod Choice
 pub mod RunGraph

@@ -3,14 +3,15 @@ use mathlib.Core.List.{List, [], _∷_}
 use Prim.Native.Nat.{ℕ, _+_}
 use Rattle.model.specs.declared.Refusal.{Refusal}
 use Rattle.model.specs.declared.Refusal.the-variants.{SheetTooShort, WrongMark, BadArchitecture, BadProcess, NoOwnerOrTooMany, BadAutomaton}
-use Rattle.model.specs.declared.Refusal.the-variants.{BadEdge, BookBufferTooShort, AnnotationBufferTooShort, BadBook, BadEntry, NoSuchProcess}
-use Rattle.model.specs.declared.Refusal.the-variants.{PathBufferTooShort, BadDirectionOrDesk, BadTie, BadPrompt}
+use Rattle.model.specs.declared.Refusal.the-variants.{BadEdge, BufferTooShort, AnnotationBufferTooShort, BadBook, BadEntry, NoSuchProcess}
+use Rattle.model.specs.declared.Refusal.the-variants.{PathBufferTooShort, BadDirectionOrDesk, BadTie, FrontsDiffer, JoinTooLarge, BadPrompt}
 use Rattle.model.specs.declared.Finding.{Finding}
 use Rattle.model.specs.declared.Finding.the-variants.{Yes, No}
 use Rattle.model.specs.declared.Verdict.{Verdict}
 use Rattle.model.specs.declared.Reply.{Reply}
 use Rattle.model.specs.declared.Outcome.{Outcome}
 use Rattle.model.specs.declared.Shown.{Shown}
+use Rattle.model.specs.declared.Written.{Written}
 
 -- a refusal gives its number alone
 abbrev pub number : Refusal → ℕ
@@ -21,7 +22,7 @@ number BadProcess = 4
 number NoOwnerOrTooMany = 5
 number BadAutomaton = 6
 number BadEdge = 7
-number BookBufferTooShort = 8
+number BufferTooShort = 8
 number AnnotationBufferTooShort = 9
 number BadBook = 10
 number BadEntry = 11
@@ -29,6 +30,8 @@ number NoSuchProcess = 12
 number PathBufferTooShort = 13
 number BadDirectionOrDesk = 14
 number BadTie = 15
+number FrontsDiffer = 19
+number JoinTooLarge = 20
 number BadPrompt = 21
 
 -- the numbers of a sheet's own faults
@@ -61,3 +64,8 @@ outcomeCode Outcome.Nothing = 256
 abbrev pub shownCode : Shown → ℕ
 shownCode (Shown.Refused r) = number r
 shownCode (Shown.Label l) = 65536 + l
+
+-- a sheet that was written: its length, above all refusals
+abbrev pub writtenCode : Written → ℕ
+writtenCode (Written.Refused r) = number r
+writtenCode (Written.Length n) = 65536 + n

@@ -9,7 +9,7 @@ use Rattle.model.specs.Reading.{proper, readSheet}
 use Rattle.model.specs.BenchCases.{sheetE, edge, bookE}
 use Rattle.model.specs.Book.{readBook}
 use Rattle.model.specs.Calls.{findSheet, judgeOf}
-use Rattle.model.specs.Demands.{demand-1, demand-2, demand-3, tied-tables, prompt-inputs, unless-edges, desk, information, sizes}
+use Rattle.model.specs.Demands.{demand-1, demand-2, demand-3, tied-tables, prompt-inputs, unless-edges, desk, information, Joins, joining, sizes}
 use Rattle.model.proofs.DemandOne.{first-demand}
 use Rattle.model.proofs.DemandTwo.{second-demand}
 use Rattle.model.proofs.DemandThree.{third-demand}
@@ -18,6 +18,7 @@ use Rattle.model.proofs.PromptInputs.{all-prompted}
 use Rattle.model.proofs.UnlessEdges.{all-unless}
 use Rattle.model.proofs.DeskShows.{desk-shows}
 use Rattle.model.proofs.Information.{all-information}
+use Rattle.model.proofs.Joining.{all-joined}
 use Rattle.model.proofs.Sizes.{all-sizes}
 
 -- 1: a fault gets exactly its number, and every lent buffer then holds what it held before
@@ -52,6 +53,10 @@ exact-desk = desk-shows
 -- information: a process acts on its own table and on what it reads, and on nothing else
 pub exact-information : information
 exact-information = all-information
+
+-- two sheets as one: what is written is read as both, with the machines of either, and tables keep it exactly where they keep both
+pub exact-joining : {first second joined : List ℕ} {s t : Sheet} (joins : Joins first second joined s t) → joining first second joined s t joins
+exact-joining = all-joined
 
 -- the sizes that 01 prints
 pub exact-sizes : (sheet : List ℕ) (s : Sheet) (is-proper : readSheet sheet ≡ proper s) → sizes sheet s is-proper

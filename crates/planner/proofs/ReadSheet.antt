@@ -1,10 +1,12 @@
--- What a sheet that was read is: the refusal, or a proper sheet.
+-- What a sheet that was read is: the refusal, or a proper sheet, of which the bytes are the writing.
 use mathlib.Core.Path.{_≡_}
 use mathlib.Core.List.{List}
 use Prim.Native.Nat.{ℕ}
 use Rattle.model.specs.declared.Refusal.{Refusal}
 use Rattle.model.specs.declared.Reply.{Reply}
 use Rattle.model.specs.Reading.{refused, proper, readSheet}
+use Rattle.model.specs.SheetFile.{sheetBytes, Bytes}
+use Rattle.model.proofs.SheetClassified as classified
 use Rattle.sheet.specs.declared.Reading.{Reading}
 use Rattle.sheet.specs.Struct.{sheetOf, Arrays, IsProper, readingOf}
 use Rattle.sheet.proofs.AnswersOfReading.{read-refused, read-proper, read-is-proper}
@@ -19,3 +21,6 @@ module _ (sheet : List ℕ) (r : Reading) (e : readingOf r ≡ readSheet sheet) 
 
     pub proper-is : Arrays (r .sheet) → IsProper (r .sheet)
     proper-is arrays = read-is-proper sheet r e arrays h
+
+    pub bytes-are : Bytes sheet → sheet ≡ sheetBytes (sheetOf (r .sheet))
+    bytes-are bytes = classified.written sheet (sheetOf (r .sheet)) bytes sheet-is .0

@@ -1,6 +1,6 @@
 // The public calls. Each takes whatever comes, and its contract says what it answers and what each lent buffer then holds.
 ghost use mathlib.Core.Path.{_≡_};
-ghost use Rattle.model.specs.Calls.{checkOf, findOf, writeOf, readOf, partOf, judgeOf, annotateOf, AnnotatePath};
+ghost use Rattle.model.specs.Calls.{checkOf, findOf, writeOf, readOf, partOf, judgeOf, annotateOf, AnnotatePath, joinOf};
 ghost use Rattle.model.specs.Calls.{part as partIn};
 ghost use Rattle.model.specs.Desk.{freshOf, stepOf};
 ghost use Rattle.book.specs.Answers.{afterRead, afterPart};
@@ -15,6 +15,7 @@ use model::Reply;
 use model::Shown;
 use model::Stepped;
 use model::Verdict;
+use model::Written;
 
 // A proper sheet, or the refusal of its first fault.
 pub fn check(sheet: &[u8]) -> Reply
@@ -181,4 +182,24 @@ pub fn step(sheet: &[u8], book: &[u8], desk: &mut Desk, direction: u8) -> Shown
     let next = step_by_value(sheet, book, *desk, direction);
     *desk = next.desk;
     next.answer
+}
+
+// Joins two sheets with the same machines: both as one go to the front of the buffer, and how many bytes they have is answered.
+pub fn join(first: &[u8], second: &[u8], sheet: &mut [u8]) -> Written
+    ensures { λ r. ⌜ r ≡ joinOf (now (first .entry)) (now (second .entry)) (now (sheet .entry)) .answer ⌝ }
+    ensures { λ _. ⌜ now (sheet .exit) ≡ joinOf (now (first .entry)) (now (second .entry)) (now (sheet .entry)) .sheet ⌝ }
+{
+    let one = sheet::read(first);
+    let answer = one.answer;
+    if let Reply::Refused(refusal) = answer {
+        return Written::Refused(refusal);
+    }
+    let other = sheet::read(second);
+    let answer = other.answer;
+    if let Reply::Refused(refusal) = answer {
+        return Written::Refused(refusal);
+    }
+    let s = one.sheet;
+    let t = other.sheet;
+    joining::join_for(first, s, second, t, sheet)
 }

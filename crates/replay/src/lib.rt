@@ -13,11 +13,11 @@ ghost use Rattle.template.specs.Template.{filled};
 ghost use Rattle.text.specs.Text.{fields};
 ghost use Rattle.replay.specs.Run as spec;
 ghost use Rattle.replay.specs.Struct.{choiceIn, vertexAt, vertexOf};
+use append::put_bytes;
 use architecture::Architecture;
 use composition::Composed;
 use model::AutomatonState;
 use sheet::Sheet;
-use template::put_bytes;
 use template::put_filled;
 
 // Where the text ends, and the vertex that the run has come to.

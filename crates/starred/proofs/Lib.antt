@@ -4,3 +4,4 @@ pub mod EveryExample
 mod EveryRun
 pub mod EveryDesk
 pub mod EveryFace
+pub mod EveryJoin

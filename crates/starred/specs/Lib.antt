@@ -3,3 +3,4 @@ pub mod Examples
 pub mod Runs
 pub mod Desks
 pub mod Faces
+pub mod Joins

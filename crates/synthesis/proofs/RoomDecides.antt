@@ -6,7 +6,7 @@ use Prim.Native.Nat.{ℕ}
 use native.Mathlib.Omega.{arith}
 use lib.ListN.{length, drop, take-append-drop}
 use Rattle.model.specs.declared.Refusal.{Refusal}
-use Rattle.model.specs.declared.Refusal.the-variants.{BookBufferTooShort, AnnotationBufferTooShort}
+use Rattle.model.specs.declared.Refusal.the-variants.{BufferTooShort, AnnotationBufferTooShort}
 use Rattle.model.specs.declared.Reply.{Reply}
 use Rattle.model.specs.Sheet.{Sheet}
 use Rattle.model.specs.Reading.{Reading, refused, proper}
@@ -39,7 +39,7 @@ module _ (s : Sheet) (book ann : List ℕ) where
   unfolding roomToFind
   some-room e =
       let d = done-by (roomToFind s book ann) e in
-      d .1 ∙ sym (passes AnnotationBufferTooShort (annotationShort s ann) _ (passes BookBufferTooShort (bookShort (s .architecture) book) _ (d .1) .1) .1)
+      d .1 ∙ sym (passes AnnotationBufferTooShort (annotationShort s ann) _ (passes BufferTooShort (bookShort (s .architecture) book) _ (d .1) .1) .1)
 
 -- ---- what is written of a choice that keeps the sheet
 module _ (s : Sheet) (tables book ann : List ℕ) (choice : IsChoice (s .architecture) (chosen (s .architecture) tables)) (room : roomToFind s book ann ≡ proper s) where
@@ -53,11 +53,11 @@ module _ (s : Sheet) (tables book ann : List ℕ) (choice : IsChoice (s .archite
       let rest : List ℕ = drop (length (entries (s .architecture))) tables in
       let same : bookOf (s .architecture) tables ≡ bookOf (s .architecture) (chosen (s .architecture) tables) =
       ap (bookOf (s .architecture)) (sym whole) ∙ filled-front (form (s .architecture)) (chosen (s .architecture) tables) rest (fits-length (choice .tables) ∙ sym (holes-form (s .architecture))) in
-      go _ _ (chosen-faultless (s .architecture) tables choice) ∙ go _ _ (passes BookBufferTooShort (bookShort (s .architecture) book) _ room .0) ∙ ap (λ (b : List ℕ). proper b) same
+      go _ _ (chosen-faultless (s .architecture) tables choice) ∙ go _ _ (passes BufferTooShort (bookShort (s .architecture) book) _ room .0) ∙ ap (λ (b : List ℕ). proper b) same
 
   pub annotation-written : loops s (chosen (s .architecture) tables) ≡ false
       → annotated (roomFor s (chosen (s .architecture) tables) ann) ann .annotation ≡ front (annotation s (chosen (s .architecture) tables)) ann
   unfolding roomFor annotated annotatedBy roomToFind
   annotation-written keeps =
-      let short = passes AnnotationBufferTooShort (annotationShort s ann) _ (passes BookBufferTooShort (bookShort (s .architecture) book) _ room .1) .0 in
+      let short = passes AnnotationBufferTooShort (annotationShort s ann) _ (passes BufferTooShort (bookShort (s .architecture) book) _ room .1) .0 in
       rw (short, keeps)

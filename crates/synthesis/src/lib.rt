@@ -56,7 +56,7 @@ fn check_room(sheet: Sheet, book: &[u8], annotation: &[u16]) -> Reply
     let mut slots = [0u16; 338];
     let n = layout::fill_slots(&mut slots, a);
     if book.len() < n {
-        return Reply::Refused(Refusal::BookBufferTooShort);
+        return Reply::Refused(Refusal::BufferTooShort);
     }
     let vertices = automaton.states as usize * a.composed_states();
     if annotation.len() < vertices {

@@ -7,31 +7,10 @@ ghost use lib.ListN.{length, getD};
 ghost use Rattle.model.specs.Mask.{if};
 ghost use Rattle.append.specs.Appends.{Appends};
 ghost use Rattle.template.specs.Template as spec;
+use append::put;
+use append::put_bytes;
 
 // ---- bytes and numbers
-// One byte.
-pub fn put(text: &mut [u8], at: usize, byte: u8) -> usize
-    requires { ⌜ at < length (now text) ⌝ }
-    ensures { λ r. ⌜ Appends (now (text .entry)) at (byte ∷ []) r (now (text .exit)) ⌝ }
-{
-    text[at] = byte;
-    at + 1
-}
-
-// All of these bytes.
-pub fn put_bytes(text: &mut [u8], at: usize, bytes: &[u8]) -> usize
-    requires { ⌜ at + length (now bytes) ≤ length (now text) ⌝ }
-    ensures { λ r. ⌜ Appends (now (text .entry)) at (now (bytes .entry)) r (now (text .exit)) ⌝ }
-{
-    let n = bytes.len();
-    let mut k: usize = 0;
-    while k < n {
-        text[at + k] = bytes[k];
-        k += 1;
-    }
-    at + n
-}
-
 // These bytes, unless the test holds.
 fn put_unless(text: &mut [u8], at: usize, test: bool, bytes: &[u8]) -> usize
     requires { ⌜ at + length (if test [] (now bytes)) ≤ length (now text) ⌝ }

@@ -11,12 +11,12 @@ ghost use Rattle.append.specs.Appends.{Appends};
 ghost use Rattle.template.specs.Holds.{Holds};
 ghost use Rattle.text.specs.Rows.{rowOf, fieldsText, edgeText, edgesText};
 ghost use Rattle.text.specs.Text as spec;
+use append::put_bytes;
 use architecture::Architecture;
 use automaton::Automaton;
 use automaton::Edge;
 use model::ProcessState;
 use model::Refusal;
-use template::put_bytes;
 use template::put_filled;
 
 // ---- tables: each function that puts something answers the index behind it

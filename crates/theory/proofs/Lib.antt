@@ -12,3 +12,4 @@ pub mod SetLaws
 pub mod DepthFirst
 pub mod LoopLaws
 pub mod EqualGraphs
+pub mod Joined

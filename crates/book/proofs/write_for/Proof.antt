@@ -5,7 +5,7 @@ use Prim.Native.Nat.{ℕ}
 use native.Mathlib.Omega.{arith}
 use borrow.Author.Tests.{lt-ltb, le-ltb}
 use borrow.Author.Needs.{needs}
-use Rattle.model.specs.declared.Refusal.the-variants.{BadEntry, BookBufferTooShort}
+use Rattle.model.specs.declared.Refusal.the-variants.{BadEntry, BufferTooShort}
 use Rattle.model.specs.Sheet.{Architecture}
 use Rattle.model.specs.Reading.{Reading, refused, proper, refuse_when_else_}
 use Rattle.model.specs.Book.{Slot, filled, bookOf}
@@ -54,16 +54,16 @@ module _ (c : tie.After-fill-slots) where
 
   -- the entries fit: the length of the buffer decides
   fitting : let a = entry tested .args in
-      due tested ≡ (refuse BookBufferTooShort when bookShort (s tested) (a .book .now) else proper (bookOf (s tested) (a .tables .now)))
+      due tested ≡ (refuse BufferTooShort when bookShort (s tested) (a .book .now) else proper (bookOf (s tested) (a .tables .now)))
   unfolding writtenFor
   fitting = go _ _ (sym (tested .entry-fault .ensures) ∙ c .before .before .if1 .left)
 
--- `return Reply::Refused(Refusal::BookBufferTooShort)`
+-- `return Reply::Refused(Refusal::BufferTooShort)`
 returns-2 : tie.Need-returns-2
 unfolding wrote bookShort
 returns-2 c =
     let f = c .before .before in
-    let e : due (tested f) ≡ refused BookBufferTooShort = fitting f ∙ stop _ _ (lt-ltb _ _ (rw (f .fill-slots .ensures .0 .0) at (c .if2 .taken))) in
+    let e : due (tested f) ≡ refused BufferTooShort = fitting f ∙ stop _ _ (lt-ltb _ _ (rw (f .fill-slots .ensures .0 .0) at (c .if2 .taken))) in
     rw e (refl, refl)
 
 -- `put_bytes(book, &slots, n, tables)`

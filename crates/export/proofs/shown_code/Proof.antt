@@ -1,5 +1,5 @@
 -- `export::shown_code` meets its contract.
-use mathlib.Core.Path.{sym, ap}
+use mathlib.Core.Path.{sym, ap, _∙_}
 use borrow.Author.Needs.{needs}
 use Rattle.model.specs.Numbers.{shownCode}
 use Rattle.export.proofs.shown_code.Statement.{statement}
@@ -27,7 +27,7 @@ add-result c = search needs
 
 -- `match shown`
 returns : tie.Need-returns
-returns c = search needs
+returns c = c .number .ensures ∙ sym (ap shownCode (c .before .before .shown .given .1))
 
 -- `match shown`
 returns-2 : tie.Need-returns-2

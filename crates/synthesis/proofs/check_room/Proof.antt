@@ -4,7 +4,7 @@ use Prim.Native.Nat.{ℕ, _*_}
 use native.Mathlib.Omega.{arith}
 use borrow.Author.Tests.{lt-ltb, le-ltb}
 use borrow.Author.Needs.{needs}
-use Rattle.model.specs.declared.Refusal.the-variants.{BookBufferTooShort, AnnotationBufferTooShort}
+use Rattle.model.specs.declared.Refusal.the-variants.{BufferTooShort, AnnotationBufferTooShort}
 use Rattle.model.specs.Reading.{refused, proper, refuse_when_else_}
 use Rattle.model.specs.RunGraph.{vertices}
 use Rattle.model.specs.Calls.{reply, bookShort, annotationShort, roomToFind}
@@ -32,12 +32,12 @@ slice-aggregate-fill-slots c = search needs
 fill-slots-requires : tie.Need-fill-slots-requires
 fill-slots-requires c κs = (order (c .before .before .before .before .before), omega arith)
 
--- `return Reply::Refused(Refusal::BookBufferTooShort)`
+-- `return Reply::Refused(Refusal::BufferTooShort)`
 returns : tie.Need-returns
 unfolding reply roomToFind bookShort
 returns c =
     let a = entry (c .before .before) .args in
-    let e : roomToFind (sheetOf (a .sheet)) (a .book .now) (a .annotation .now) ≡ refused BookBufferTooShort =
+    let e : roomToFind (sheetOf (a .sheet)) (a .book .now) (a .annotation .now) ≡ refused BufferTooShort =
     stop _ _ (lt-ltb _ _ (rw (c .before .before .fill-slots .ensures .0 .0) at (c .if1 .taken))) in
     rw e
 

@@ -13,7 +13,7 @@ use Rattle.template.proofs.put_decimal.Reads as put-decimal
 use Rattle.template.proofs.put_decimal.Kinds as put-decimal-kinds
 use Rattle.template.proofs.+put_decimal.Lts-put_decimal as put-decimal-lts
 use Rattle.template.proofs.digit.Reads as digit-reads
-use Rattle.template.proofs.put.Reads as put-reads
+use Rattle.append.proofs.put.Reads as put-reads
 use Rattle.template.proofs.+put_decimal.{statement}
 use Rattle.template.proofs.+put_decimal.Tie.{close}
 

@@ -1,8 +1,8 @@
--- `template::put` meets its contract: a store appends one byte.
+-- `append::put` meets its contract: a store appends one byte.
 use borrow.Author.Needs.{needs}
 use Rattle.append.proofs.Appended.{append-one}
-use Rattle.template.proofs.put.Statement.{statement}
-use Rattle.template.proofs.put.Tie as tie
+use Rattle.append.proofs.put.Statement.{statement}
+use Rattle.append.proofs.put.Tie as tie
 
 -- `text[at] = byte`
 slice-write-text : tie.Need-slice-write-text

@@ -1,0 +1,4 @@
+pub mod EdgesAdded
+pub mod JoinFacts
+pub mod FrontLength
+pub mod JoinAnswers
