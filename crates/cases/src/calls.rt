@@ -12,6 +12,7 @@ use model::Refusal;
 use model::Reply;
 use model::Shown;
 use model::Verdict;
+use model::Written;
 
 // The front of a line.
 fn open(case: &[u8], call: &[u8]) {
@@ -272,4 +273,20 @@ pub fn step(case: &[u8], sheet: &[u8], book: &[u8], desk: Desk, direction: u8) -
         }
     }
     after
+}
+
+// Joins two sheets into this buffer.
+pub fn join(case: &[u8], first: &[u8], second: &[u8], sheet: &mut [u8]) {
+    open(case, b"join");
+    let written = planner::join(first, second, sheet);
+    match written {
+        Written::Refused(refusal) => refused(refusal),
+        Written::Length(length) => {
+            print::text(b" length ");
+            print::number(length as u64);
+            print::text(b"\n");
+            open(case, b"join sheet");
+            print::bytes(sheet);
+        }
+    }
 }

@@ -3,6 +3,7 @@ ghost use Prim.Native.Nat.{_<_};
 
 mod calls;
 mod desks;
+mod joins;
 mod print;
 mod prompts;
 mod sheets;
@@ -16,6 +17,7 @@ use calls::judge;
 use calls::part;
 use calls::reread;
 use desks::desks;
+use joins::joins;
 use prompts::prompts;
 use sheet::CASE_A;
 use sheets::BOOK_A;
@@ -259,4 +261,5 @@ fn main() {
     case_l();
     paths();
     desks();
+    joins();
 }
