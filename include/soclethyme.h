@@ -3,8 +3,8 @@
  * Every call takes bytes and buffers of any length. A result is 0 for proper,
  * tables, written, read, yes, annotated and fresh, and 256 for none, no and
  * loop; otherwise it is the number of the refusal (README.md lists them), and
- * every lent buffer then holds what it held before. A part or a label is a
- * number from 65536 on. */
+ * every lent buffer then holds what it held before. A part, a label or the
+ * length of a joined sheet is a number from 65536 on. */
 #ifndef SOCLETHYME_H
 #define SOCLETHYME_H
 
@@ -82,6 +82,16 @@ uint32_t soclethyme_fresh(const uint8_t *sheet, size_t sheet_len,
 uint32_t soclethyme_step(const uint8_t *sheet, size_t sheet_len,
                          const uint8_t *book, size_t book_len,
                          uint8_t *desk /* 5 */, uint8_t direction);
+
+/* Joins two sheets whose bytes before AU are the same: writes one sheet, which
+ * tables keep exactly where they keep both, at the front of `sheet`, leaves the
+ * rest, and returns 65536 + its length, or the refusal (a number below 65536):
+ * that of the first sheet, then that of the second, then 19 where the bytes
+ * before AU differ, 20 where both together have more than 16 states or 64 edges,
+ * 8 where the buffer is too short. 433 bytes are always enough. */
+uint32_t soclethyme_join(const uint8_t *first, size_t first_len,
+                         const uint8_t *second, size_t second_len,
+                         uint8_t *sheet, size_t sheet_len);
 
 #ifdef __cplusplus
 }

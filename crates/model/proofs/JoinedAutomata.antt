@@ -135,25 +135,23 @@ module _ (u w : Automaton) where
 
       -- an edge of an automaton whose states stand n further on, of all these
       module _ (n old : ℕ) (inside : n + old ≤ all-states) (e : Edge) (own : ProperEdge variables old e) where
-        copied-proper : ProperEdge variables all-states (copied n e)
-        unfolding copied
-        copied-proper = record {
-          from-known = omega (arith, own .to-known);
+        -- whatever it leaves
+        leaving-proper : (q : ℕ) → q < all-states → ProperEdge variables all-states record { from = q; to = n + e .to; on = e .on; off = e .off; unless = e .unless }
+        leaving-proper q l = record {
+          from-known = l;
           to-known = omega (arith, own .to-known);
           on-known = own .on-known;
           off-known = own .off-known;
           on-off-apart = own .on-off-apart;
         }
 
+        copied-proper : ProperEdge variables all-states (copied n e)
+        unfolding copied
+        copied-proper = leaving-proper 0 (omega (arith, own .to-known))
+
         moved-proper : ProperEdge variables all-states (moved n e)
         unfolding moved
-        moved-proper = record {
-          from-known = omega (arith, own .from-known);
-          to-known = omega (arith, own .to-known);
-          on-known = own .on-known;
-          off-known = own .off-known;
-          on-off-apart = own .on-off-apart;
-        }
+        moved-proper = leaving-proper (n + e .from) (omega (arith, own .from-known))
 
       module _ (n : ℕ) (v : Automaton) (inside : n + v .states ≤ all-states) (proper : ProperAutomaton variables v) (d : Edge) where
         copy-proper : CopyOf n v d → ProperEdge variables all-states d

@@ -118,12 +118,12 @@ module _ (a : Architecture) (c : List ℕ) (good : ProperArchitecture a) where
       same-start : composedState a (start (sheet u)) ≡ composedState a (start (sheet j))
       same-start = start-composed u ∙ sym (start-composed j)
 
-      -- a step of the new start, along a copy
-      opened : {w : ℕ} (x : Step (sheet j) c (start (sheet j)) w) → CopyOf k u (x .edge) → (y : ℕ) × (w ≡ at k y) × Step (sheet u) c (start (sheet u)) y
-      opened x o = returned u j k (start (sheet u)) (start (sheet j)) same-start x (o .edge) (subst (λ (d : Edge). Acts k d (o .edge)) (o .is) (copied-acts k (o .edge))) (o .drawn) (o .leaves ∙ sym (start-state u))
-
-      in-graph : {w : ℕ} → (y : ℕ) × (w ≡ at k y) × Step (sheet u) c (start (sheet u)) y → (y : ℕ) × (w ≡ at k y) × Graph.Step (runGraph (sheet u) c) (start (sheet u)) y
-      in-graph r = (r .0, r .1, step-right (sheet u) c gu (start (sheet u)) (r .0) (start-lt (sheet u) c gu) .1 (r .2))
+      -- a step of the new start along a copy is one of u's start
+      opened : {w : ℕ} (x : Step (sheet j) c (start (sheet j)) w) → CopyOf k u (x .edge) → (y : ℕ) × (w ≡ at k y) × Graph.Step (runGraph (sheet u) c) (start (sheet u)) y
+      opened x o =
+          let acts = subst (λ (d : Edge). Acts k d (o .edge)) (o .is) (copied-acts k (o .edge)) in
+          let r = returned u j k (start (sheet u)) (start (sheet j)) same-start x (o .edge) acts (o .drawn) (o .leaves ∙ sym (start-state u)) in
+          (r .0, r .1, step-right (sheet u) c gu (start (sheet u)) (r .0) (start-lt (sheet u) c gu) .1 (r .2))
 
       stands : Copied (runGraph (sheet j) c) (runGraph (sheet u) c) (at k)
       unfolding runGraph rejects copied moved
@@ -169,7 +169,7 @@ module _ (a : Architecture) (c : List ℕ) (good : ProperArchitecture a) where
             let x = step-right (sheet j) c gj (start (sheet j)) y (start-lt (sheet j) c gj) .0 m in
             let from : x .edge .from ≡ 0 = met-is (x .edge) _ _ .0 (x .is-met) .0 ∙ start-state j ∙ first-part u w .starts in
             ⊎-elim
-            (λ o. ⊎-elim (λ n. inl (in-graph (first-part u w) gu gj (opened (first-part u w) gu gj x n))) (λ n. inr (in-graph (second-part u w (gu .automaton)) gw gj (opened (second-part u w (gu .automaton)) gw gj x n))) o)
+            (λ o. ⊎-elim (λ n. inl (opened (first-part u w) gu gj x n)) (λ n. inr (opened (second-part u w (gu .automaton)) gw gj x n)) o)
             (λ o. absurd (⊎-elim (no-moved (x .edge) (omega arith) from) (no-moved (x .edge) (omega arith) from) o))
             (edge-cases u w (x .edge) (x .drawn));
       }

@@ -62,9 +62,12 @@ joinedXY = sheetE 1 3 0 (edges 20 0 1 ++ edge 0 2 ++ edges 20 1 1 ++ edge 2 2)
 abbrev pub joinedYY : List ℕ
 joinedYY = sheetE 1 3 0 (edge 0 1 ++ edge 0 2 ++ edge 1 1 ++ edge 2 2)
 
--- F with E: the loop stands in state 1
+-- F with E, and E with F: the loop stands in state 1, and in state 2
 abbrev pub joinedFE : List ℕ
 joinedFE = sheetE 1 3 2 (edge 0 1 ++ edge 1 1)
+
+abbrev pub joinedEF : List ℕ
+joinedEF = sheetE 1 3 4 (edge 0 2 ++ edge 2 2)
 
 -- the number for these two, with a buffer of this length
 abbrev pub code : List ℕ → List ℕ → ℕ → ℕ
@@ -110,8 +113,8 @@ pub record JoinsPinned : Type 0 where
   pub other-kind : code (sheetE 1 1 0 []) prompted 433 ≡ 19
   pub other-tie : code (sheetS tieS []) (sheetS (0x53 ∷ 0x59 ∷ 0x00 ∷ 0x01 ∷ []) []) 433 ≡ 19
   -- 20: 16 states and 17; 64 edges and 66, copies counted, and edges that are not copied
-  pub sixteen-states : code (sheetE 1 7 0 []) (sheetE 1 8 0 []) 433 ≡ 65536 + 18
-  pub seventeen-states : code (sheetE 1 8 0 []) (sheetE 1 8 0 []) 433 ≡ 20
+  pub sixteen-joined : code (sheetE 1 7 0 []) (sheetE 1 8 0 []) 433 ≡ 65536 + 18
+  pub seventeen-joined : code (sheetE 1 8 0 []) (sheetE 1 8 0 []) 433 ≡ 20
   pub sixty-four-edges : code (sheetE 1 1 0 (edges 16 0 0)) (sheetE 1 1 0 (edges 16 0 0)) 433 ≡ 65536 + 402
   pub sixty-six-edges : code (sheetE 1 1 0 (edges 16 0 0)) (sheetE 1 1 0 (edges 17 0 0)) 433 ≡ 20
   pub none-copied : code (sheetE 1 2 0 (edges 32 1 0)) (sheetE 1 2 0 (edges 32 1 0)) 433 ≡ 65536 + 402
@@ -124,6 +127,8 @@ pub record JoinsPinned : Type 0 where
   pub second-before-19 : code (sheetE 1 1 0 []) (sheetE 2 0 0 []) 0 ≡ 6
   pub nineteen-before-20 : code (sheetE 1 8 0 []) (sheetE 2 9 0 []) 0 ≡ 19
   pub twenty-before-8 : code (sheetE 1 8 0 []) (sheetE 1 8 0 []) 0 ≡ 20
-  -- the loop of F is one of F with E
+  -- the loop of F is one of F with E, and of E with F
   pub F-with-E : joinBytes (sheetE 1 1 1 (edge 0 0)) (sheetE 1 1 0 []) ≡ proper joinedFE
-  pub still-none : outcomeCode (findOf joinedFE (buffer 8) (buffer 3) .answer) ≡ 256
+  pub none-of-FE : outcomeCode (findOf joinedFE (buffer 8) (buffer 3) .answer) ≡ 256
+  pub E-with-F : joinBytes (sheetE 1 1 0 []) (sheetE 1 1 1 (edge 0 0)) ≡ proper joinedEF
+  pub none-of-EF : outcomeCode (findOf joinedEF (buffer 8) (buffer 3) .answer) ≡ 256
