@@ -1,1 +1,2 @@
 // Run graphs in the abstract: a library of definitions (specs/) and theorems (proofs/), with no code.
+#![tactic(auto)]
