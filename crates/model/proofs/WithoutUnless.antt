@@ -11,7 +11,7 @@ use Rattle.model.specs.Mask.{if}
 use Rattle.model.specs.Sheet.{Architecture, Edge, Automaton, Sheet, ProperSheet}
 use Rattle.model.specs.Compose.{label, step}
 use Rattle.model.specs.RunGraph.{vertex, automaton_state, composed_state, met, Step}
-use Rattle.model.specs.Demands.{as_eX, one_per_variable, without_unless, plain}
+use Rattle.model.specs.Demands.{as_ex, one_per_variable, without_unless, plain}
 use Rattle.model.proofs.OnePerVariable.{in_place_of, same_end}
 
 -- the masks of an edge are of 8 variables at most
@@ -31,7 +31,7 @@ module _ (q l : ℕ) where
   abbrev in_place : Bool → Edge → List Edge
   in_place unless e = if unless (one_per_variable e) (e ∷ [])
 
-  as_ex : (e : Edge) → e.unless ≡ true → met e q l ≡ met (as_eX e) q l
+  as_ex : (e : Edge) → e.unless ≡ true → met e q l ≡ met (as_ex e) q l
   as_ex e kind = ap (λ (unless : Bool). met (record { from = e.from; to = e.to; on = e.on; off = e.off; unless = unless }) q l) kind
 
   placed : (e : Edge) (unless : Bool) → e.unless ≡ unless → Known e → met e q l ≡ true → Leads (in_place unless e) e.to
