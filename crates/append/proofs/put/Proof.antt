@@ -5,15 +5,15 @@ use Rattle.append.proofs.put.Statement.{statement}
 use Rattle.append.proofs.put.Tie as tie
 
 -- `text[at] = byte`
-slice-write-text : tie.Need-slice-write-text
+slice-write-text : tie.Need-bounds-text-at
 slice-write-text c = search rules
 
 -- `at + 1`
-add-result : tie.Need-overflow-add-result
+add-result : tie.Need-overflow_add-result
 add-result c = search rules
 
 -- `at + 1`
-same_length : tie.Need-same-length
+same_length : tie.Need-shape_of-text
 same_length c = search rules
 
 -- `at + 1`
