@@ -1,5 +1,6 @@
 // A universal co-Büchi automaton: what AU and the ED and EX records of a sheet say.
 #![tactic(auto)]
+
 ghost use Rattle.std.specs.Prelude.{◌≡◌, [], ◌+◌, ◌<◌};
 ghost use Rattle.model.specs.Sheet as model;
 ghost use Rattle.model.specs.RunGraph.{matches, meets};

@@ -10,5 +10,5 @@ returns : tie.Need-returns
 unfolding automaton_of edges_of
 returns c = (refl, (record { few_edges = omega arith; from_long = refl; to_long = refl; on_long = refl; off_long = refl; unless_long = refl }, refl))
 
-pub opened-spec : {M : Type 1} → statement M
-opened-spec = tie.close (tie.spec returns)
+pub opened_spec : {M : Type 1} → statement M
+opened_spec = tie.close (tie.spec returns)

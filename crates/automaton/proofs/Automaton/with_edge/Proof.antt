@@ -10,27 +10,27 @@ use Rattle.automaton.proofs.Automaton.with_edge.Statement.{statement}
 use Rattle.automaton.proofs.Automaton.with_edge.Tie as tie
 
 -- `self.from[n] = from`
-element-set-from-from : tie.Need-element-set-from-from
+element-set-from-from : tie.Need-bounds-self-n
 element-set-from-from c = search rules
 
 -- `self.to[n] = to`
-element-set-from-to : tie.Need-element-set-from-to
+element-set-from-to : tie.Need-bounds-self-n-2
 element-set-from-to c = search rules
 
 -- `self.on[n] = edge.on`
-element-write-self : tie.Need-element-write-self
+element-write-self : tie.Need-bounds-self-n-3
 element-write-self c = search rules
 
 -- `self.off[n] = edge.off`
-element-write-self-2 : tie.Need-element-write-self-2
+element-write-self-2 : tie.Need-bounds-self-n-4
 element-write-self-2 c = search rules
 
 -- `self.unless[n] = edge.unless`
-element-write-self-3 : tie.Need-element-write-self-3
+element-write-self-3 : tie.Need-bounds-self-n-5
 element-write-self-3 c = search rules
 
 -- `self.edges = n + 1`
-add-self : tie.Need-overflow-add-self
+add-self : tie.Need-overflow_add-self
 add-self c = search rules
 
 -- `self`
@@ -38,7 +38,7 @@ returns : tie.Need-returns
 unfolding with_edge automaton_of
 returns c =
     let b = c.before.before in
-    let u = b.args.t1 in
+    let u = b.args.self in
     let e = b.args.edge in
     let z = b.requires.0 in (
       rw
@@ -56,8 +56,8 @@ returns c =
       ),
     )
 
-pub with-edge-spec : {M : Type 1} → statement M
-with-edge-spec =
+pub with_edge_spec : {M : Type 1} → statement M
+with_edge_spec =
     tie.close
     (tie.spec
     element-set-from-from

@@ -23,5 +23,5 @@ returns : tie.Need-returns
 unfolding meets
 returns c = let unless : Bool = c.before.before.args.self.unless in differs c.before.matches.result unless ∙ ap (λ (t : Bool). if unless (not t) t) c.before.matches.ensures
 
-pub is-met-spec : {M : Type 1} → statement M
-is-met-spec = tie.close (tie.spec matches-requires returns)
+pub is_met_spec : {M : Type 1} → statement M
+is_met_spec = tie.close (tie.spec matches-requires returns)

@@ -20,12 +20,12 @@ unfolding matches within share
 off-decides e l h = rw (eq-eqb (bit_and e.on l) e.on h) (not-not (eqb (bit_and e.off l) 0))
 
 -- `return false`
-returns : tie.Need-returns
-returns c = sym (lacks _ _ c.if1.true)
+returns : tie.Need-returns-then-self-label
+returns c = sym (lacks _ _ c.if-self-label.true)
 
 -- `self.off & label == 0`
-returns-2 : tie.Need-returns-2
-returns-2 c = sym (off-decides _ _ c.before.if1.false)
+returns-2 : tie.Need-returns
+returns-2 c = sym (off-decides _ _ c.before.if-self-label.false)
 
-pub matches-spec : {M : Type 1} → statement M
-matches-spec = tie.close (tie.spec returns returns-2)
+pub matches_spec : {M : Type 1} → statement M
+matches_spec = tie.close (tie.spec returns returns-2)
