@@ -9,7 +9,7 @@ use Rattle.theory.specs.Lists.{empty, before, all}
 use Rattle.theory.proofs.ListLaws.{pairwise_append, filter_sound, filter_complete, filter_all, filter_pairwise}
 use Rattle.model.specs.Sheet.{Architecture, ProperArchitecture}
 use Rattle.model.specs.Choice.{Entry, values, entries, Fits, done, also, keeps_ties, Before, lower, later, Ordered, Once, each, fillings, choices}
-use Rattle.model.specs.Demands.{order-of-choices}
+use Rattle.model.specs.Demands.{OrderOfChoices}
 use Rattle.model.proofs.TiesTest.{keeps_ties_is}
 use Rattle.model.proofs.FirstInOrder.{Rising, flat, up, AllSmall, values_rising, values_has, values_may, entries_small}
 
@@ -92,7 +92,7 @@ ordered_once : {cs : List (List ℕ)} → Ordered cs → Once cs
 ordered_once empty = empty
 ordered_once (before h o) = before (λ d m. before_differs (h d m)) (ordered_once o)
 
-pub choices_in_order : (a : Architecture) → ProperArchitecture a → order-of-choices a
+pub choices_in_order : (a : Architecture) → ProperArchitecture a → OrderOfChoices a
 unfolding choices keeps_ties all
 choices_in_order a good =
     let listed = fillings (entries a) in

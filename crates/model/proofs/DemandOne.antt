@@ -23,7 +23,7 @@ use Rattle.model.specs.Computed.{loops, first_choice}
 use Rattle.model.specs.Calls.{Chosen, reply, check_of, find_sheet, find_choice, find_in, find_of, book_and_rooms, annotated_by}
 use Rattle.model.specs.Calls.{annotated, annotate_of, AfterPath, path_left, PathBy, PathFor, AnnotatePath, written, wrote, write_of, part_architecture, cut, part_of, part}
 use Rattle.model.specs.Refusals.{BookRefused, not_formed, no_choice, Among, FindRefused, JudgeRefused, AnnotateRefused, WriteRefused, ReadRefused, PartRefused, StepRefused, JoinRefused}
-use Rattle.model.specs.Demands.{demand_1}
+use Rattle.model.specs.Demands.{Demand1}
 use Rattle.model.proofs.SheetNumbers.{early}
 use Rattle.model.proofs.CallRefusals.{check_answer, find_exactly, judge_exactly, annotate_exactly, write_exactly, read_exactly, part_exactly}
 use Rattle.model.proofs.DeskRefusals.{step_exactly, fresh_as_check, fresh_kept, step_kept}
@@ -145,7 +145,7 @@ refused≢found r f e = let z : ◌≡◌ {A = ℕ} 0 1 = cc in omega arith
 no≢yes : ¬ (Verdict.Found No ≡ Verdict.Found Yes)
 no≢yes e = let z : ◌≡◌ {A = ℕ} 0 1 = cc in omega arith
 
-pub first_demand : demand_1
+pub first_demand : Demand1
 unfolding check_of find_of annotate_of AnnotatePath write_of part_of
 first_demand = record {
   proper_exactly = λ sheet s bytes. (

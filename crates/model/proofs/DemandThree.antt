@@ -19,7 +19,7 @@ use Rattle.model.specs.RunGraph.{vertices, RejectingLoop, Keeps}
 use Rattle.model.specs.Computed.{loops, keeps, annotation, first_choice}
 use Rattle.model.specs.Book.{form, book_length, book_of}
 use Rattle.model.specs.Calls.{front, book_short, annotation_short, AfterFind, find_sheet, find_choice, find_in, find_of, judge_of, annotate_of, room_to_find}
-use Rattle.model.specs.Demands.{Annotates, Weighed, First, book_found, demand-3}
+use Rattle.model.specs.Demands.{Annotates, Weighed, First, book_found, Demand3}
 use Rattle.model.proofs.ProperSheet.{passes, goes_on, sheet_proper}
 use Rattle.model.proofs.ComputedTests.{loops_exactly, keeps_exactly}
 use Rattle.model.proofs.AnnotationExact.{annotates}
@@ -133,7 +133,7 @@ module _ (sheet book ann : List ℕ) (s : Sheet) (not_refused : find_sheet sheet
   pub own_choice : (find_of sheet book ann).answer ≡ Outcome.Tables → (c : List ℕ) × IsChoice s.architecture c × (book_of s.architecture c ≡ own)
   own_choice q = let r = answer_tables (first_choice s) refl q in (r.0, (the_first r.0 r.1).is_choice, sym (own_is r.0 r.1))
 
-  pub third_demand : demand-3 sheet book ann s not_refused
+  pub third_demand : Demand3 sheet book ann s not_refused
   third_demand = record {
     none_exactly = (λ q. all_loop (answer_nothing (first_choice s) refl q), λ h. nothing_answer (first_choice s) refl h);
     none_with_fewer_states = λ q bounds c fits ties. all_loop (answer_nothing (first_choice s) refl q) (padded s.architecture bounds c)

@@ -20,7 +20,7 @@ use Rattle.model.specs.Computed.{loops, annotation_from, annotation, valid}
 use Rattle.model.specs.Book.{read_book}
 use Rattle.model.specs.Calls.{front, annotation_short, path_short, Chosen, room_for, book_for, book_and_room, judged, judge_of}
 use Rattle.model.specs.Calls.{AfterAnnotate, rooms_for, book_and_rooms_for, book_and_rooms, annotated_by, annotated, annotate_of, AfterPath, WritesLasso, PathBy, PathFor, AnnotatePath}
-use Rattle.model.specs.Demands.{Older, Weighed, WithPath, demand_2}
+use Rattle.model.specs.Demands.{Older, Weighed, WithPath, Demand2}
 use Rattle.model.proofs.ProperSheet.{passes, goes_on, same_proper, sheet_proper}
 use Rattle.model.proofs.Refusing.{go, then_read}
 use Rattle.model.proofs.BookRead.{choice_read, read_choice}
@@ -265,7 +265,7 @@ older sheet book ann path w =
       others = blank_elsewhere s c good w.is_choice.tables w.holds.1 0;
     }
 
-pub second_demand : demand_2
+pub second_demand : Demand2
 second_demand = record {
   judges_yes = says_yes;
   judges_no = says_no;

@@ -26,7 +26,7 @@ use Rattle.model.specs.Book.{read_book}
 use Rattle.model.specs.Desk.{numbers, process_states, on_desk, showing, fresh_in, fresh_of, too_high, desk_fault, choice_for, step_by, step_when_read, step_of}
 use Rattle.model.specs.Desk.{desk_after, answers, after, possible, due_from}
 use Rattle.model.specs.Refusals.{Misfits}
-use Rattle.model.specs.Demands.{desk}
+use Rattle.model.specs.Demands.{DeskCalls}
 use Rattle.model.proofs.ProperSheet.{sheet_proper, below_bit}
 use Rattle.model.proofs.FaultsExact.{or_off, not_beyond}
 use Rattle.model.proofs.Refusing.{then_read}
@@ -266,7 +266,7 @@ module _ (sheet book : List ℕ) (s : Sheet) (c : List ℕ) (is_proper : read_sh
         ap (λ (x : Desk). drop n x.states) holds_fresh ∙ behind n u.states (drop (length u.states) k.states) long ∙ ap (λ (m : ℕ). drop m k.states) long
 
   -- all of the promise
-  pub desk_shows : desk sheet book s c is_proper is_book
+  pub desk_shows : DeskCalls sheet book s c is_proper is_book
   desk_shows = record {
     made_fresh = fresh_is;
     holds = holds_fresh;

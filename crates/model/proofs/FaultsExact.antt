@@ -9,7 +9,7 @@ use borrow.Author.Tests.{le-ltb, lt-leb, le-leb, ne_eqb, eq-eqb}
 use Rattle.theory.specs.Lists.{Pairwise, before, all, from}
 use Rattle.theory.proofs.ListLaws.{all_is, from_least, turn_last}
 use Rattle.model.specs.Mask.{beyond, count}
-use Rattle.model.specs.Sheet.{Process, Tie, Architecture, Edge, Automaton, with_process, with_tie, with_edge, as_pR, owned, composed_states, Apart}
+use Rattle.model.specs.Sheet.{Process, Tie, Architecture, Edge, Automaton, with_process, with_tie, with_edge, as_pr, owned, composed_states, Apart}
 use Rattle.model.specs.Sheet.{ProperProcess, SameShape, ProperTie, ProperFront, ProperArchitecture, ProperEdge, ProperAutomaton}
 use Rattle.model.specs.Reading.{ar_fault, taken, field_fault, pr_fault, prompt_fault, unlike, tie_fault, all_fault, au_fault, ed_fault}
 use Rattle.model.proofs.ProperSheet.{apart_sym, plain_fault}
@@ -65,8 +65,8 @@ process_faultless a p g =
     (not_taken a.processes p (λ q m. pairwise_across a.processes g.outputs_apart q p m last))
 
 -- as a PR
-pub plain_faultless : (a : Architecture) (p : Process) → ProperFront (with_process a (as_pR p)) → pr_fault a p ≡ false
-plain_faultless a p g = sym (plain_fault a p) ∙ process_faultless a (as_pR p) g
+pub plain_faultless : (a : Architecture) (p : Process) → ProperFront (with_process a (as_pr p)) → pr_fault a p ≡ false
+plain_faultless a p g = sym (plain_fault a p) ∙ process_faultless a (as_pr p) g
 
 -- ---- PM
 pub prompt_faultless : (a : Architecture) (p : Process) → ProperFront (with_process a p) → prompt_fault a.processes p ≡ false

@@ -12,7 +12,7 @@ use borrow.Author.Tests.{eqb-true, eq-eqb, ne_eqb, lt-ltb}
 use Rattle.theory.proofs.Bools.{and_is}
 use Rattle.model.specs.declared.Refusal.{Refusal}
 use Rattle.model.specs.declared.Refusal.TheVariants.{SheetTooShort, WrongMark, BadArchitecture, BadProcess, NoOwnerOrTooMany, BadAutomaton, BadEdge, BadTie, BadPrompt}
-use Rattle.model.specs.Sheet.{Process, Tie, Architecture, Edge, Automaton, Sheet, with_process, with_tie, with_edge, as_pR, ProperFront, ProperArchitecture, ProperAutomaton, ProperSheet}
+use Rattle.model.specs.Sheet.{Process, Tie, Architecture, Edge, Automaton, Sheet, with_process, with_tie, with_edge, as_pr, ProperFront, ProperArchitecture, ProperAutomaton, ProperSheet}
 use Rattle.model.specs.Reading.{refused, marked, tie_marked, edge_marked, AR, SY, AU, ED, EX, EN, ar_fault, pr_fault, prompt_fault, tie_fault, all_fault, au_fault, ed_fault}
 use Rattle.model.specs.Reading.{read_end, read_automaton, read_front, read_sheet}
 use Rattle.model.specs.SheetFile.{process_bytes, tie_bytes, edge_bytes, states_bytes, front_bytes, records_bytes, sheet_bytes, FollowsFront, FollowsEdges}
@@ -129,14 +129,14 @@ process_reached a p x b e g few untied f =
     ∙ then_refused _ (process_next b (length (front_bytes a)) a k p x (behind (front_bytes a) (process_bytes p ++ x) e) ∙ f)
 
 process_bad : (a : Architecture) (p : Process) (x b : List ℕ) → b ≡ front_bytes a ++ (process_bytes p ++ x) → ProperFront a → length a.processes < 4 → a.ties ≡ []
-    → ¬ ProperFront (with_process a (as_pR p)) → read_front b ≡ refused BadProcess
+    → ¬ ProperFront (with_process a (as_pr p)) → read_front b ≡ refused BadProcess
 unfolding written
 process_bad a p x b e g few untied n =
     let fault : pr_fault a (written p) ≡ pr_fault a p = sym (plain_fault a (written p)) ∙ plain_fault a p in
     process_reached a p x b e g few untied (stop BadProcess _ (fault ∙ passed (pr_fault a p) (plain_more a p g few) n))
 
 prompt_bad : (a : Architecture) (p : Process) (x b : List ℕ) → b ≡ front_bytes a ++ (process_bytes p ++ x) → ProperFront a → length a.processes < 4 → a.ties ≡ []
-    → p.prompted ≡ true → ProperFront (with_process a (as_pR p)) → ¬ ProperFront (with_process a p) → read_front b ≡ refused BadPrompt
+    → p.prompted ≡ true → ProperFront (with_process a (as_pr p)) → ¬ ProperFront (with_process a p) → read_front b ≡ refused BadPrompt
 prompt_bad a p x b e g few untied prompted plain n =
     let none : p.prompted ≡ false → p.prompts ≡ 0 = λ z. absurd (true≢false (sym prompted ∙ z)) in
     let good : pr_fault a p ≡ false = plain_faultless a p plain in

@@ -21,7 +21,7 @@ use Rattle.model.specs.Compose.{Composed, row_length, process_length, row_at, la
 use Rattle.model.specs.Choice.{entries, begins, length_of}
 use Rattle.model.specs.Desk.{numbers, on_desk, fresh_of, step_of, desk_after, after, possible}
 use Rattle.model.specs.Information.{row_of, row_table, values_read, index_read, Face, face, shows, alone, face_on, shows_on}
-use Rattle.model.specs.Demands.{InSystem, AtDesk, information}
+use Rattle.model.specs.Demands.{InSystem, AtDesk, Information}
 use Rattle.model.proofs.ProperSheet.{sheet_proper, below_bit}
 use Rattle.model.proofs.FitsTest.{fits_length}
 use Rattle.model.proofs.BookRead.{read_choice}
@@ -152,7 +152,7 @@ same_bits {a} {a'} {c} {c'} {i} {i'} z z' e t t' d d' =
     (λ h. agree.0 (h ∙ sym same), λ h. agree.1 h ∙ same)
 
 -- ---- all of the promise
-pub all_information : information
+pub all_information : Information
 all_information = record {
   acts_alone = acts_alone;
   same_seen = λ z z' rows ds ds' read. both_alone (acts_alone z ds) (acts_alone z' ds') rows read;

@@ -16,7 +16,7 @@ use Rattle.model.specs.RunGraph.{RejectingLoop, Keeps}
 use Rattle.model.specs.Book.{book_of, read_book}
 use Rattle.model.specs.Calls.{front, AfterFind, find_sheet, find_of, gave, read_of, room_for_sheet, wrote_sheet, join_of}
 use Rattle.model.specs.Refusals.{Fitting}
-use Rattle.model.specs.Demands.{Joins, FirstOfBoth, joining}
+use Rattle.model.specs.Demands.{Joins, FirstOfBoth, Joining}
 use Rattle.model.proofs.Refusing.{go, then_read}
 use Rattle.model.proofs.ProperSheet.{passes, goes_on, same_proper, sheet_proper, sheet_short}
 use Rattle.model.proofs.SheetReads.{sheet_reads}
@@ -124,7 +124,7 @@ module _ {first second joined : List ℕ} {s t : Sheet} (joins : Joins first sec
         let keeps = (both c f.is_choice).0 f.keeps in
         (c, record { is_choice = f.is_choice; keeps_first = keeps.0; keeps_second = keeps.1; first = λ d choice b. (either d choice).0 (f.first d choice b) }, ap (λ (x : AfterFind). x.book) r.4)
 
-  pub all_joined : joining first second joined s t joins
+  pub all_joined : Joining first second joined s t joins
   unfolding join_of wrote_sheet room_for_sheet join_sheets
   all_joined = record {
     read_joined = read_joined;

@@ -19,7 +19,7 @@ use Rattle.model.specs.Compose.{Composed, outputs, present, label, step, compose
 use Rattle.model.specs.Choice.{entries, IsTables}
 use Rattle.model.specs.Reading.{proper, read_sheet}
 use Rattle.model.specs.Information.{values_read}
-use Rattle.model.specs.Demands.{read_by, next_of, MovesOnReads, prompt-inputs}
+use Rattle.model.specs.Demands.{read_by, next_of, MovesOnReads, PromptInputs}
 use Rattle.model.proofs.ProperSheet.{sheet_proper}
 use Rattle.model.proofs.ComposedNumbers.{in_length, IsState, split_length, composed_in, step_in}
 use Rattle.model.proofs.MovesInTurn.{reads_prompt, reads_other, reads_same, reads_none, step_at_lem, Deaf}
@@ -98,7 +98,7 @@ without_prompts a deaf c n d k l =
     let new = outputs (take k a.processes) 0 c (step a c t d).states in
     step_at_lem a c t d k l (split_length a.processes _) ∙ ap (next_of a c t k) (reads_none p (bit_or d (present a c t)) new (deaf p (list_has a.processes k nobody l)))
 
-pub all_prompted : (sheet : List ℕ) (s : Sheet) (is_proper : read_sheet sheet ≡ proper s) → prompt-inputs sheet s is_proper
+pub all_prompted : (sheet : List ℕ) (s : Sheet) (is_proper : read_sheet sheet ≡ proper s) → PromptInputs sheet s is_proper
 all_prompted sheet s is_proper =
     let a = s.architecture in
     let good = (sheet_proper sheet s is_proper).architecture in

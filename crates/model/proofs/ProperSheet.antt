@@ -15,7 +15,7 @@ use lib.Bits.{bit_and, and_comm, and_zero_l, and_le_r}
 use Rattle.theory.specs.Lists.{empty, before, InTurn, done, and_then, all, from}
 use Rattle.theory.proofs.ListLaws.{all_is, from_has, pairwise_append, turn_more}
 use Rattle.model.specs.Mask.{if, within, share, beyond}
-use Rattle.model.specs.Sheet.{Process, Tie, Architecture, Edge, Automaton, Sheet, with_process, with_tie, nobody, process_no, as_pR, outputs_of, owned, Apart}
+use Rattle.model.specs.Sheet.{Process, Tie, Architecture, Edge, Automaton, Sheet, with_process, with_tie, nobody, process_no, as_pr, outputs_of, owned, Apart}
 use Rattle.model.specs.Sheet.{ProperProcess, ProperPrompts, SameShape, ProperTie, ProperTies, ProperFront, ProperArchitecture, ProperEdge, ProperEdges, ProperAutomaton, ProperSheet}
 use Rattle.model.specs.Reading.{Reading, refused, proper, byte, short, marked, process_marked, tie_marked, edge_marked, EN, AU, PM, AR, refuse◌when◌else◌, ◌then◌}
 use Rattle.model.specs.Reading.{ar_fault, taken, field_fault, pr_fault, prompt_fault, unlike, tie_fault, all_fault, au_fault, ed_fault, architecture_at, prompts_at, process_at, process_size, tie_at, edge_at, Front}
@@ -197,18 +197,18 @@ no_prompt_fault lower p none =
     ap₂ (λ (s t : Bool). s || t) (off p.inputs) (off (outputs_of lower))
 
 -- 4 does not look at them
-plain_taken : (ps : List Process) (p : Process) → taken ps (as_pR p) ≡ taken ps p
+plain_taken : (ps : List Process) (p : Process) → taken ps (as_pr p) ≡ taken ps p
 unfolding taken
 plain_taken [] p = refl
 plain_taken (q ∷ ps) p = ap (λ (t : Bool). share p.outputs q.outputs || t) (plain_taken ps p)
 
-pub plain_fault : (a : Architecture) (p : Process) → pr_fault a (as_pR p) ≡ pr_fault a p
+pub plain_fault : (a : Architecture) (p : Process) → pr_fault a (as_pr p) ≡ pr_fault a p
 unfolding pr_fault field_fault
 plain_fault a p = ap (λ (t : Bool). field_fault a.variables a.environment p || t) (plain_taken a.processes p)
 
 -- so a process whose other fields have no fault is proper as a PR
-pub plain_more : (a : Architecture) (p : Process) → ProperFront a → length a.processes < 4 → pr_fault a p ≡ false → ProperFront (with_process a (as_pR p))
-plain_more a p g few f = process_more a (as_pR p) g few (plain_fault a p ∙ f) (no_prompt_fault a.processes (as_pR p) refl) (λ e. refl)
+pub plain_more : (a : Architecture) (p : Process) → ProperFront a → length a.processes < 4 → pr_fault a p ≡ false → ProperFront (with_process a (as_pr p))
+plain_more a p g few f = process_more a (as_pr p) g few (plain_fault a p ∙ f) (no_prompt_fault a.processes (as_pr p) refl) (λ e. refl)
 
 -- the record at i has prompt inputs only if it is a PM
 pub none_of_PR_at : (b : List ℕ) (i : ℕ) → (process_at b i).prompted ≡ false → (process_at b i).prompts ≡ 0

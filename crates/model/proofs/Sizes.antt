@@ -10,7 +10,7 @@ use Rattle.model.specs.Sheet.{Process, Architecture, Sheet, ProperProcesses, Pro
 use Rattle.model.specs.Reading.{proper, read_sheet}
 use Rattle.model.specs.Compose.{row_length}
 use Rattle.model.specs.Book.{due, records, all_records, form, book_length}
-use Rattle.model.specs.Demands.{sizes}
+use Rattle.model.specs.Demands.{Sizes}
 use Rattle.model.proofs.ProperSheet.{sheet_proper, sheet_short}
 use Rattle.model.proofs.RunGraphSteps.{vertices_few}
 use Rattle.model.proofs.EntriesBound.{row_few, choice_short}
@@ -36,7 +36,7 @@ unfolding book_length form
 book_is_short a good =
     omega (arith, length-append (all_records 0 a.processes) (due 0x45 ∷ due 0x4E ∷ []), records_short 0 a.processes good.front.processes_proper, good.front.few_processes)
 
-pub all_sizes : (sheet : List ℕ) (s : Sheet) (is_proper : read_sheet sheet ≡ proper s) → sizes sheet s is_proper
+pub all_sizes : (sheet : List ℕ) (s : Sheet) (is_proper : read_sheet sheet ≡ proper s) → Sizes sheet s is_proper
 all_sizes sheet s is_proper =
     let proper = sheet_proper sheet s is_proper in
     let good = proper.architecture in

@@ -11,7 +11,7 @@ use Rattle.model.specs.Choice.{KeepsTies}
 use Rattle.model.specs.Book.{book_of}
 use Rattle.model.specs.Calls.{book_short, annotation_short, find_sheet, room_to_find, find_in, find_of}
 use Rattle.model.specs.Refusals.{JudgeRefused, AnnotateRefused, WriteRefused, ReadRefused, PartRefused, StepRefused, BookRefused, no_choice}
-use Rattle.model.specs.Demands.{tied, itself, back, link, OneTable, Breaks, book_found, tied-tables}
+use Rattle.model.specs.Demands.{tied, itself, back, link, OneTable, Breaks, book_found, TiedTables}
 use Rattle.model.proofs.ProperSheet.{goes_on, passes, same_proper}
 use Rattle.model.proofs.FitsTest.{fits_length}
 use Rattle.model.proofs.BookRead.{choice_read, read_choice}
@@ -48,7 +48,7 @@ module _ (sheet : List ℕ) (s : Sheet) (is_proper : read_sheet sheet ≡ proper
       by (refused r) e a = let z : ◌≡◌ {A = ℕ} 0 1 = cc in absurd (omega arith)
       by (proper x) e a = e ∙ ap proper (searched book ann x e)
 
-  pub all_tied : tied-tables sheet s is_proper
+  pub all_tied : TiedTables sheet s is_proper
   all_tied = record {
     read_tied = λ book c e. chained s.architecture c (read_choice s.architecture book c e).0.ties;
     found_tied = λ book ann q.

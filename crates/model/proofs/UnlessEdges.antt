@@ -7,7 +7,7 @@ use borrow.Author.Tests.{eq-eqb, ne_eqb}
 use Rattle.model.specs.Mask.{if, within, share}
 use Rattle.model.specs.Sheet.{Edge}
 use Rattle.model.specs.RunGraph.{matches, meets, met}
-use Rattle.model.specs.Demands.{as_ed, as_ex, unless_edges}
+use Rattle.model.specs.Demands.{as_ed, as_ex, UnlessEdges}
 use Rattle.model.proofs.OnePerVariable.{in_place_of}
 use Rattle.model.proofs.WithoutUnless.{same_steps}
 
@@ -24,5 +24,5 @@ no_masks : (e : Edge) (q l : ℕ) → e.on ≡ 0 → e.off ≡ 0 → met (as_ex 
 unfolding met meets matches within share if
 no_masks e q l on off = rw (on, off) (and-false (eqb e.from q))
 
-pub all_unless : unless_edges
+pub all_unless : UnlessEdges
 all_unless = record { turned = turned; elsewhere = elsewhere; no_masks = no_masks; in_place_of = in_place_of; same_steps = same_steps }

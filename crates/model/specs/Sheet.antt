@@ -67,8 +67,8 @@ abbrev pub process_no : List Process → ℕ → Process
 process_no ps i = get_or ps i nobody
 
 -- the same process as a PR
-abbrev pub as_pR : Process → Process
-as_pR p = record { inputs = p.inputs; outputs = p.outputs; bound = p.bound; prompts = 0; prompted = false }
+abbrev pub as_pr : Process → Process
+as_pr p = record { inputs = p.inputs; outputs = p.outputs; bound = p.bound; prompts = 0; prompted = false }
 
 -- all outputs of these processes, in one mask
 unfoldable pub outputs_of : List Process → ℕ

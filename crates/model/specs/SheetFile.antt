@@ -2,7 +2,7 @@
 use Rattle.std.specs.Prelude.{◌≡◌, Bool, true, ◌⊎◌, List, [], ◌∷◌, ◌++◌, ℕ, ◌/◌, ◌%◌, ◌≤◌, ◌<◌, length}
 use Rattle.model.specs.declared.Refusal.{Refusal}
 use Rattle.model.specs.declared.Refusal.TheVariants.{WrongMark, BadArchitecture, BadProcess, NoOwnerOrTooMany, BadAutomaton, BadEdge, BadTie, BadPrompt}
-use Rattle.model.specs.Sheet.{Process, Tie, Architecture, Edge, Automaton, Sheet, with_process, with_tie, with_edge, as_pR, ProperFront, ProperArchitecture, ProperAutomaton, ProperSheet}
+use Rattle.model.specs.Sheet.{Process, Tie, Architecture, Edge, Automaton, Sheet, with_process, with_tie, with_edge, as_pr, ProperFront, ProperArchitecture, ProperAutomaton, ProperSheet}
 use Rattle.model.specs.Mask.{if}
 use Rattle.model.specs.Reading.{AR, PR, PM, SY, AU, ED, EX, EN, byte}
 
@@ -110,9 +110,9 @@ pub data Faulty : List ℕ → Refusal → Type 0 where
   wrong_first_mark : (m : List ℕ) → length m ≡ 2 → ¬ (m ≡ AR) → Faulty m WrongMark
   bad_architecture : (a : Architecture) → a.processes ≡ [] → a.ties ≡ [] → ¬ ProperFront a → Faulty (front_bytes a) BadArchitecture
   wrong_mark_behind_front : (a : Architecture) (m : List ℕ) → ProperFront a → length m ≡ 2 → ¬ FollowsFront a m → Faulty (front_bytes a ++ m) WrongMark
-  bad_process : (a : Architecture) (p : Process) → ProperFront a → length a.processes < 4 → a.ties ≡ [] → ¬ ProperFront (with_process a (as_pR p))
+  bad_process : (a : Architecture) (p : Process) → ProperFront a → length a.processes < 4 → a.ties ≡ [] → ¬ ProperFront (with_process a (as_pr p))
       → Faulty (front_bytes a ++ process_bytes p) BadProcess
-  bad_prompt : (a : Architecture) (p : Process) → ProperFront a → length a.processes < 4 → a.ties ≡ [] → p.prompted ≡ true → ProperFront (with_process a (as_pR p))
+  bad_prompt : (a : Architecture) (p : Process) → ProperFront a → length a.processes < 4 → a.ties ≡ [] → p.prompted ≡ true → ProperFront (with_process a (as_pr p))
       → ¬ ProperFront (with_process a p) → Faulty (front_bytes a ++ process_bytes p) BadPrompt
   bad_tie : (a : Architecture) (t : Tie) → ProperFront a → 1 ≤ length a.processes → length a.ties < 3 → ¬ ProperFront (with_tie a t) → Faulty (front_bytes a ++ tie_bytes t) BadTie
   no_owner_or_too_many : (a : Architecture) (u : Automaton) → ProperFront a → 1 ≤ length a.processes → ¬ ProperArchitecture a → Faulty (front_bytes a ++ states_bytes u) NoOwnerOrTooMany
