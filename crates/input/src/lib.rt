@@ -1,4 +1,4 @@
-//! The files of a program: each argument names one, and `-` or no argument stands for standard input.
+// The files of a program: each argument names one, and `-` or no argument stands for standard input.
 #![tactic(auto)]
 
 ghost use Rattle.std.specs.Prelude.{◌≤◌, length};
@@ -10,7 +10,7 @@ use std::rt::Files;
 use std::str::from_utf8;
 use std::{fmt, fs, io};
 
-/// What a program reads: standard input, or a file that was opened.
+// What a program reads: standard input, or a file that was opened.
 pub type Source<R> = Either<<R as Input>::Reader, <R as Files>::File>;
 
 // Room for an argument. A longer one counts as empty, and so does one that is missing.
@@ -39,7 +39,7 @@ impl fmt::Display for Shown<'_> {
     }
 }
 
-/// These bytes, on standard error.
+// These bytes, on standard error.
 pub fn say(rt: &impl Eprint, text: &[u8]) {
     let _ = eprint!(rt; "{}", Shown(text));
 }
@@ -75,7 +75,7 @@ fn is_given(rt: &impl Env, i: usize) -> bool {
     !matches!(rt.arg(i, &mut room), Err(FillError::NotPresent))
 }
 
-/// How many arguments the program was started with, its own name among them.
+// How many arguments the program was started with, its own name among them.
 pub fn argument_count(rt: &impl Env) -> usize {
     for i in 0..usize::MAX {
         if !is_given(rt, i) {
@@ -115,7 +115,7 @@ fn open_file<R: Files + Eprint>(rt: &R, path: &[u8]) -> Option<R::File> {
     }
 }
 
-/// Opens the file that argument i names, or standard input. Where it fails the cause goes to standard error.
+// Opens the file that argument i names, or standard input. Where it fails the cause goes to standard error.
 pub fn open<R: Env + Files + Input + Eprint>(rt: &R, i: usize) -> Option<Source<R>> {
     if argument_count(rt) <= i {
         return Some(Either::Left(rt.reader()));
@@ -129,7 +129,7 @@ pub fn open<R: Env + Files + Input + Eprint>(rt: &R, i: usize) -> Option<Source<
     Some(Either::Right(open_file(rt, path)?))
 }
 
-/// Reads until the buffer is full, the input ends or a read fails: answers how many bytes it put at the front.
+// Reads until the buffer is full, the input ends or a read fails: answers how many bytes it put at the front.
 pub fn read_full<S: Read>(source: &mut S, room: &mut [u8]) -> usize
     ensures { result ≤ length room.new }
 {
@@ -148,7 +148,7 @@ fn write_file(rt: &impl Files, path: &[u8], bytes: &[u8]) -> io::Result<()> {
     fs::write(rt, path_text(path)?, bytes)
 }
 
-/// Writes the bytes to the file that argument i names, in place of what it held; the cause of a failure goes to standard error.
+// Writes the bytes to the file that argument i names, in place of what it held; the cause of a failure goes to standard error.
 pub fn save<R: Env + Files + Eprint>(rt: &R, i: usize, bytes: &[u8]) {
     let mut room = [0u8; ARGUMENT_ROOM];
     let length = argument(rt, i, &mut room);
@@ -159,7 +159,7 @@ pub fn save<R: Env + Files + Eprint>(rt: &R, i: usize, bytes: &[u8]) {
 }
 
 // ---- what is said of the call
-/// The name of argument i, on standard error.
+// The name of argument i, on standard error.
 pub fn print_name<R: Env + Eprint>(rt: &R, i: usize) {
     let mut room = [0u8; ARGUMENT_ROOM];
     let length = argument(rt, i, &mut room);
@@ -171,7 +171,7 @@ pub fn print_name<R: Env + Eprint>(rt: &R, i: usize) {
     say(rt, name);
 }
 
-/// How a program is called, on standard error.
+// How a program is called, on standard error.
 pub fn usage(rt: &impl Eprint, words: &[u8]) {
     say(rt, b"usage: ");
     say(rt, words);

@@ -54,6 +54,7 @@ module _ (q l : ℕ) where
 
   all_placed : (es : List Edge) → AllKnown es → (e : Edge) → Memᴰ e es → met e q l ≡ true → Leads (without_unless es) e.to
   unfolding without_unless
+  all_placed [] known e m h = elim m [ ]
   all_placed (f ∷ es) known e (Memᴰ.head same) h =
       let r = placed f f.unless refl (known f (Memᴰ.head refl)) (ap (λ (z : Edge). met z q l) (sym same) ∙ h) in
       record { edge = r.edge; there = Memᴰ.append_left (without_unless es) r.there; is_met = r.is_met; end = ap (λ (z : Edge). z.to) same ∙ r.end }

@@ -1,1 +1,2 @@
 // The starred bench cases: a table (specs/) and the theorem that every row of it holds (proofs/), with no code.
+#![tactic(auto)]
