@@ -62,6 +62,12 @@ fn fail(rt: &impl Eprint, path: &[u8], error: Error) {
     let _ = eprintln!(rt; ": {}", without_number(text));
 }
 
+// ---- standard output
+// These bytes, on standard output. Where they cannot be written, nothing else changes.
+pub fn put(rt: &impl Print, bytes: &[u8]) {
+    let _ = rt.write_all(bytes);
+}
+
 // ---- arguments
 // Puts argument i at the front of the buffer and answers its length.
 fn argument(rt: &impl Env, i: usize, room: &mut [u8]) -> usize
