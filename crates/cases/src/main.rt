@@ -107,7 +107,7 @@ fn case_i(rt: &impl Print) {
     check(rt, b"I empty", &[]);
     check(rt, b"I 41", &[0x41]);
     let mut longer = [0u8; 61];
-    bytes::copy(&CASE_A, &mut longer);
+    longer[..CASE_A.len()].copy_from_slice(&CASE_A);
     check(rt, b"I A and one more", &longer);
 }
 
