@@ -1,7 +1,8 @@
 // The files of a program: each argument names one, and `-` or no argument stands for standard input.
 #![tactic(auto)]
 
-ghost use Rattle.std.specs.Prelude.{◌≤◌, length};
+ghost use Rattle.std.specs.Prelude.{◌≤◌, length, take};
+ghost use Rattle.std.specs.Io.KnownBytes.{Consumes};
 
 use either::Either;
 use std::env::{Env, FillError};
@@ -137,15 +138,16 @@ pub fn open<R: Env + Files + Input + Eprint>(rt: &R, i: usize) -> Option<Source<
 
 // Reads until the buffer is full, the input ends or a read fails: answers how many bytes it put at the front.
 pub fn read_full<S: Read>(source: &mut S, room: &mut [u8]) -> usize
-    ensures { result ≤ length room.new }
+    ensures fits { result ≤ length room.new }
+    ensures bytes { Consumes (S.remaining source.old) (S.remaining source.new) (take result room.new) }
 {
     let mut done: usize = 0;
     while done < room.len() {
-        let count = source.read(&mut room[done..]).unwrap_or(0);
-        if count == 0 {
-            return done;
+        match source.read(&mut room[done..]) {
+            Ok(0) => return done,
+            Ok(count) => done += count,
+            Err(_) => return done,
         }
-        done += count;
     }
     done
 }
