@@ -1,4 +1,4 @@
-/* The library's C interface. Link libexport.a (rt staticlib export).
+/* The library's C interface. Link libexport.a (rt lib in crates/export).
  *
  * Every call takes bytes and buffers of any length. A result is 0 for proper,
  * tables, written, read, yes, annotated and fresh, and 256 for none, no and

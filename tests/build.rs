@@ -1,5 +1,5 @@
 //! Finds the static library under test: in the folder `SOCLETHYME_LIB`, or in
-//! `../target/staticlib` seen from this package.
+//! `../crates/export/out` seen from this package.
 
 use std::env;
 use std::path::PathBuf;
@@ -8,7 +8,7 @@ fn main() {
     let package = PathBuf::from(env::var("CARGO_MANIFEST_DIR").expect("cargo names the package"));
     let folder = match env::var_os("SOCLETHYME_LIB") {
         Some(folder) => package.join(folder),
-        None => package.join("../target/staticlib"),
+        None => package.join("../crates/export/out"),
     };
     println!("cargo:rerun-if-env-changed=SOCLETHYME_LIB");
     println!(

@@ -1,6 +1,7 @@
 // Annotates the book in a file: prints `greatest` and the greatest number of the annotation, `loop` and the run that breaks the sheet, or `refused` and the
 // number, with the cause on standard error. With a third name it writes the annotation to that file, in words of two bytes, the low byte first.
 #![tactic(auto)]
+
 ghost use Rattle.std.specs.Prelude.{◌≡◌, ◌≤◌, length};
 ghost use Rattle.model.specs.declared.Finding.TheVariants.{Yes, No};
 ghost use Rattle.model.specs.declared.Verdict.{Verdict as Answer};
@@ -10,8 +11,9 @@ ghost use Rattle.template.specs.Holds.{Holds};
 ghost use Rattle.annotate.specs.Printed.{chosen_in, chosen_file, printed, annotation₀, path₀, left};
 
 use judging::Annotated;
-use libc::STDOUT_FILENO;
 use model::{Finding, Verdict};
+use std::env::Env;
+use std::rt::Files;
 
 // One byte more than the longest proper sheet, so that a byte after EN is seen.
 const SHEET_ROOM: usize = 434;
@@ -63,25 +65,25 @@ fn verdict_text(
 }
 
 // Puts out the text that is due for the bytes of two files: this is all that the program writes on standard output.
-fn put_out(sheet: &[u8], book: &[u8], done: Annotated, path: &[u8], text: &[u8])
+fn put_out(rt: &impl Print, sheet: &[u8], book: &[u8], done: Annotated, path: &[u8], text: &[u8])
     requires annotate_path { AnnotatePath sheet.now book.now annotation₀ path₀ (after_path done path.now) }
     requires text_value { text.now ≡ printed sheet.now book.now (after_path done path.now) }
 {
-    io::write_all(STDOUT_FILENO, text);
+    input::put(rt, text);
 }
 
 // Writes the annotation of the book.
-fn save_bytes(sheet: &[u8], book: &[u8], annotation: &[u8])
+fn save_bytes<R: Env + Files + Eprint>(rt: &R, sheet: &[u8], book: &[u8], annotation: &[u8])
     requires { annotation.now ≡ chosen_file (chosen_in sheet.now book.now) }
 {
-    input::save(3, annotation);
+    input::save(rt, 3, annotation);
 }
 
 // Writes what annotate put into the buffer, where a file is named for it.
-fn save_annotation(sheet: &[u8], book: &[u8], annotation: &[u16])
+fn save_annotation<R: Env + Files + Eprint>(rt: &R, sheet: &[u8], book: &[u8], annotation: &[u16])
     requires { annotate_of sheet.now book.now annotation₀ path₀ ≡ left (Answer.Found Yes) annotation.now }
 {
-    if os::arg_count() < 4 {
+    if input::argument_count(rt) < 4 {
         return;
     }
     let reading = sheet::read(sheet);
@@ -89,41 +91,41 @@ fn save_annotation(sheet: &[u8], book: &[u8], annotation: &[u16])
     let vertices = sizes::vertices(read);
     let mut bytes = [0u8; 8192];
     let end = words::to_bytes(&mut bytes, &annotation[..vertices]);
-    save_bytes(sheet, book, &bytes[..end]);
+    save_bytes(rt, sheet, book, &bytes[..end]);
 }
 
 // The answer for the bytes of two files, with the file or the cause of a refusal.
-fn answer(sheet: &[u8], book: &[u8]) {
+fn answer<R: Env + Files + Print + Eprint>(rt: &R, sheet: &[u8], book: &[u8]) {
     let mut annotation = [0u16; 4096];
     let mut path = [0u8; 16384];
     let done = planner::annotate(sheet, book, &mut annotation, &mut path);
     let mut text = [0u8; TEXT_ROOM];
     let end = verdict_text(&mut text, sheet, book, done, &annotation, &path);
-    put_out(sheet, book, done, &path, &text[..end]);
+    put_out(rt, sheet, book, done, &path, &text[..end]);
     let verdict = done.verdict;
     match verdict {
-        Verdict::Refused(refusal) => cause::explain(refusal, sheet),
+        Verdict::Refused(refusal) => cause::explain(rt, refusal, sheet),
         Verdict::Found(finding) => match finding {
-            Finding::Yes => save_annotation(sheet, book, &annotation),
+            Finding::Yes => save_annotation(rt, sheet, book, &annotation),
             Finding::No => {}
         },
     }
 }
 
-fn main() {
-    let count = os::arg_count();
+fn main(rt: HostRuntime) {
+    let count = input::argument_count(&rt);
     if count < 3 || count > 4 {
-        input::usage(b"annotate SHEET BOOK [ANNOTATION]");
+        input::usage(&rt, b"annotate SHEET BOOK [ANNOTATION]");
         return;
     }
-    let sheet_file = input::open(1);
-    let book_file = input::open(2);
-    if sheet_file < 0 || book_file < 0 {
+    let sheet_file = input::open(&rt, 1);
+    let book_file = input::open(&rt, 2);
+    let (Some(mut sheet_file), Some(mut book_file)) = (sheet_file, book_file) else {
         return;
-    }
+    };
     let mut sheet = [0u8; SHEET_ROOM];
-    let sheet_end = io::read_full(sheet_file, &mut sheet);
+    let sheet_end = input::read_full(&mut sheet_file, &mut sheet);
     let mut book = [0u8; BOOK_ROOM];
-    let book_end = io::read_full(book_file, &mut book);
-    answer(&sheet[..sheet_end], &book[..book_end]);
+    let book_end = input::read_full(&mut book_file, &mut book);
+    answer(&rt, &sheet[..sheet_end], &book[..book_end]);
 }

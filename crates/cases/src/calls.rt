@@ -8,34 +8,34 @@ use layout::TB;
 use model::{Desk, Finding, Outcome, Refusal, Reply, Shown, Verdict, Written};
 
 // The front of a line.
-fn open(case: &[u8], call: &[u8]) {
-    print::text(case);
-    print::text(b" ");
-    print::text(call);
+fn open(rt: &impl Print, case: &[u8], call: &[u8]) {
+    print::text(rt, case);
+    print::text(rt, b" ");
+    print::text(rt, call);
 }
 
 // The rest of a refused call's line.
-fn refused(refusal: Refusal) {
-    print::text(b" refused ");
-    print::number(refusal.number() as u64);
-    print::text(b"\n");
+fn refused(rt: &impl Print, refusal: Refusal) {
+    print::text(rt, b" refused ");
+    print::number(rt, refusal.number() as u64);
+    print::text(rt, b"\n");
 }
 
 // Checks the sheet.
-pub fn check(case: &[u8], sheet: &[u8]) {
-    open(case, b"check");
+pub fn check(rt: &impl Print, case: &[u8], sheet: &[u8]) {
+    open(rt, case, b"check");
     let reply = planner::check(sheet);
     match reply {
-        Reply::Refused(refusal) => refused(refusal),
-        Reply::Done => print::text(b" proper\n"),
+        Reply::Refused(refusal) => refused(rt, refusal),
+        Reply::Done => print::text(rt, b" proper\n"),
     }
 }
 
 // Checks so many bytes of the sheet.
-pub fn check_front(case: &[u8], sheet: &[u8], bytes: usize)
+pub fn check_front(rt: &impl Print, case: &[u8], sheet: &[u8], bytes: usize)
     requires { bytes ≤ length sheet.now }
 {
-    check(case, &sheet[0..bytes]);
+    check(rt, case, &sheet[0..bytes]);
 }
 
 // How many rows the book has: each opens with TB, which stands nowhere else in a book.
@@ -66,38 +66,39 @@ fn greatest(annotation: &[u16]) -> u16 {
 }
 
 // What find wrote, and what judge says of that.
-fn found(case: &[u8], sheet: &[u8], book: &[u8], annotation: &[u16]) {
-    print::text(b" tables ");
-    print::number(rows(book));
-    print::text(b" greatest ");
-    print::number(greatest(annotation) as u64);
-    print::text(b"\n");
-    open(case, b"find book");
-    print::bytes(book);
-    open(case, b"find annotation");
-    print::annotation(annotation);
-    judge(case, sheet, book, annotation);
+fn found(rt: &impl Print, case: &[u8], sheet: &[u8], book: &[u8], annotation: &[u16]) {
+    print::text(rt, b" tables ");
+    print::number(rt, rows(book));
+    print::text(rt, b" greatest ");
+    print::number(rt, greatest(annotation) as u64);
+    print::text(rt, b"\n");
+    open(rt, case, b"find book");
+    print::bytes(rt, book);
+    open(rt, case, b"find annotation");
+    print::annotation(rt, annotation);
+    judge(rt, case, sheet, book, annotation);
 }
 
 // Finds tables into these buffers.
-fn find_into(case: &[u8], sheet: &[u8], book: &mut [u8], annotation: &mut [u16]) {
-    open(case, b"find");
+fn find_into(rt: &impl Print, case: &[u8], sheet: &[u8], book: &mut [u8], annotation: &mut [u16]) {
+    open(rt, case, b"find");
     let outcome = planner::find(sheet, book, annotation);
     match outcome {
-        Outcome::Refused(refusal) => refused(refusal),
-        Outcome::Nothing => print::text(b" none\n"),
-        Outcome::Tables => found(case, sheet, book, annotation),
+        Outcome::Refused(refusal) => refused(rt, refusal),
+        Outcome::Nothing => print::text(rt, b" none\n"),
+        Outcome::Tables => found(rt, case, sheet, book, annotation),
     }
 }
 
 // Finds tables: their book has this many bytes, their annotation this many numbers.
-pub fn find(case: &[u8], sheet: &[u8], bytes: usize, numbers: usize)
+pub fn find(rt: &impl Print, case: &[u8], sheet: &[u8], bytes: usize, numbers: usize)
     requires bytes_bound { bytes ≤ 338 }
     requires numbers_bound { numbers ≤ 4096 }
 {
     let mut book = [7u8; 338];
     let mut annotation = [7u16; 4096];
     find_into(
+        rt,
         case,
         sheet,
         &mut book[0..bytes],
@@ -106,54 +107,69 @@ pub fn find(case: &[u8], sheet: &[u8], bytes: usize, numbers: usize)
 }
 
 // Judges the book with this annotation.
-pub fn judge(case: &[u8], sheet: &[u8], book: &[u8], annotation: &[u16]) {
-    open(case, b"judge");
+pub fn judge(rt: &impl Print, case: &[u8], sheet: &[u8], book: &[u8], annotation: &[u16]) {
+    open(rt, case, b"judge");
     let verdict = planner::judge(sheet, book, annotation);
     match verdict {
-        Verdict::Refused(refusal) => refused(refusal),
+        Verdict::Refused(refusal) => refused(rt, refusal),
         Verdict::Found(finding) => match finding {
-            Finding::Yes => print::text(b" yes\n"),
-            Finding::No => print::text(b" no\n"),
+            Finding::Yes => print::text(rt, b" yes\n"),
+            Finding::No => print::text(rt, b" no\n"),
         },
     }
 }
 
 // The rest of the line of `loop`: how many steps the two parts of the run have, and their bytes.
-fn run(annotated: Annotated, path: &[u8])
+fn run(rt: &impl Print, annotated: Annotated, path: &[u8])
     requires { (2 * (annotated.stem + annotated.cycle) ≤ length path.now) × (annotated.stem + annotated.cycle ≤ 8192) }
 {
-    print::text(b" loop ");
-    print::number(annotated.stem as u64);
-    print::text(b" ");
-    print::number(annotated.cycle as u64);
+    print::text(rt, b" loop ");
+    print::number(rt, annotated.stem as u64);
+    print::text(rt, b" ");
+    print::number(rt, annotated.cycle as u64);
     let end = 2 * (annotated.stem + annotated.cycle);
-    print::bytes(&path[0..end]);
+    print::bytes(rt, &path[0..end]);
 }
 
 // Annotates the book into these buffers, and judges what was written.
-fn annotate_into(case: &[u8], sheet: &[u8], book: &[u8], annotation: &mut [u16], path: &mut [u8]) {
-    open(case, b"annotate");
+fn annotate_into(
+    rt: &impl Print,
+    case: &[u8],
+    sheet: &[u8],
+    book: &[u8],
+    annotation: &mut [u16],
+    path: &mut [u8],
+) {
+    open(rt, case, b"annotate");
     let annotated = planner::annotate(sheet, book, annotation, path);
     let verdict = annotated.verdict;
     match verdict {
-        Verdict::Refused(refusal) => refused(refusal),
+        Verdict::Refused(refusal) => refused(rt, refusal),
         Verdict::Found(finding) => match finding {
             Finding::Yes => {
-                print::annotation(annotation);
-                judge(case, sheet, book, annotation);
+                print::annotation(rt, annotation);
+                judge(rt, case, sheet, book, annotation);
             }
-            Finding::No => run(annotated, path),
+            Finding::No => run(rt, annotated, path),
         },
     }
 }
 
 // Annotates the book: its annotation has this many numbers, and the path this many bytes.
-pub fn annotate_with(case: &[u8], sheet: &[u8], book: &[u8], numbers: usize, bytes: usize)
+pub fn annotate_with(
+    rt: &impl Print,
+    case: &[u8],
+    sheet: &[u8],
+    book: &[u8],
+    numbers: usize,
+    bytes: usize,
+)
     requires { (numbers ≤ 4096) × (bytes ≤ 16384) }
 {
     let mut annotation = [7u16; 4096];
     let mut path = [7u8; 16384];
     annotate_into(
+        rt,
         case,
         sheet,
         book,
@@ -163,121 +179,131 @@ pub fn annotate_with(case: &[u8], sheet: &[u8], book: &[u8], numbers: usize, byt
 }
 
 // Annotates the book: its annotation has this many numbers, and the path is as long as is asked.
-pub fn annotate(case: &[u8], sheet: &[u8], book: &[u8], numbers: usize)
+pub fn annotate(rt: &impl Print, case: &[u8], sheet: &[u8], book: &[u8], numbers: usize)
     requires { numbers ≤ 4096 }
 {
-    annotate_with(case, sheet, book, numbers, 4 * numbers);
+    annotate_with(rt, case, sheet, book, numbers, 4 * numbers);
 }
 
 // Writes the tables as a book into this buffer.
-fn write_into(case: &[u8], sheet: &[u8], tables: &[u8; 272], book: &mut [u8]) {
-    open(case, b"write");
+fn write_into(rt: &impl Print, case: &[u8], sheet: &[u8], tables: &[u8; 272], book: &mut [u8]) {
+    open(rt, case, b"write");
     let reply = planner::write(sheet, tables, book);
     match reply {
-        Reply::Refused(refusal) => refused(refusal),
-        Reply::Done => print::bytes(book),
+        Reply::Refused(refusal) => refused(rt, refusal),
+        Reply::Done => print::bytes(rt, book),
     }
 }
 
 // Writes the tables as a book, which has this many bytes.
-fn write(case: &[u8], sheet: &[u8], tables: &[u8; 272], bytes: usize)
+fn write(rt: &impl Print, case: &[u8], sheet: &[u8], tables: &[u8; 272], bytes: usize)
     requires { bytes ≤ 338 }
 {
     let mut book = [7u8; 338];
-    write_into(case, sheet, tables, &mut book[0..bytes]);
+    write_into(rt, case, sheet, tables, &mut book[0..bytes]);
 }
 
 // The front of the tables: A has ten entries.
-fn entries(tables: &[u8; 272]) {
+fn entries(rt: &impl Print, tables: &[u8; 272]) {
     let all: &[u8] = tables;
-    print::bytes(&all[0..10]);
+    print::bytes(rt, &all[0..10]);
 }
 
 // Reads a book of A and writes its tables again: the same book comes back.
-pub fn reread(case: &[u8], sheet: &[u8], book: &[u8])
+pub fn reread(rt: &impl Print, case: &[u8], sheet: &[u8], book: &[u8])
     requires { length book.now ≤ 338 }
 {
-    open(case, b"read");
+    open(rt, case, b"read");
     let read = planner::read(sheet, book);
     let answer = read.answer;
     let tables = read.tables;
     match answer {
-        Reply::Refused(refusal) => refused(refusal),
+        Reply::Refused(refusal) => refused(rt, refusal),
         Reply::Done => {
-            entries(&tables);
-            write(case, sheet, &tables, book.len());
+            entries(rt, &tables);
+            write(rt, case, sheet, &tables, book.len());
         }
     }
 }
 
 // The part of a process. An empty one has its refusal from `range`.
-pub fn part(case: &[u8], sheet: &[u8], book: &[u8], process: usize) {
-    open(case, b"part ");
-    print::number(process as u64);
+pub fn part(rt: &impl Print, case: &[u8], sheet: &[u8], book: &[u8], process: usize) {
+    open(rt, case, b"part ");
+    print::number(rt, process as u64);
     let range = planner::range(sheet, book, process);
     let answer = range.answer;
     match answer {
-        Reply::Refused(refusal) => refused(refusal),
-        Reply::Done => print::bytes(planner::part(sheet, book, process)),
+        Reply::Refused(refusal) => refused(rt, refusal),
+        Reply::Done => print::bytes(rt, planner::part(sheet, book, process)),
     }
 }
 
 // The rest of a line: the five places of a desk.
-fn places(desk: Desk) {
+fn places(rt: &impl Print, desk: Desk) {
     let states = desk.states;
-    print::bytes(&[
-        states[0].0,
-        states[1].0,
-        states[2].0,
-        states[3].0,
-        desk.environment,
-    ]);
+    print::bytes(
+        rt,
+        &[
+            states[0].0,
+            states[1].0,
+            states[2].0,
+            states[3].0,
+            desk.environment,
+        ],
+    );
 }
 
 // Makes a desk fresh.
-pub fn fresh(case: &[u8], sheet: &[u8], desk: Desk) -> Desk {
-    open(case, b"fresh");
+pub fn fresh(rt: &impl Print, case: &[u8], sheet: &[u8], desk: Desk) -> Desk {
+    open(rt, case, b"fresh");
     let made = planner::fresh(sheet, desk);
     let answer = made.answer;
     let after = made.desk;
     match answer {
-        Reply::Refused(refusal) => refused(refusal),
-        Reply::Done => places(after),
+        Reply::Refused(refusal) => refused(rt, refusal),
+        Reply::Done => places(rt, after),
     }
     after
 }
 
 // Steps a desk by a direction.
-pub fn step(case: &[u8], sheet: &[u8], book: &[u8], desk: Desk, direction: u8) -> Desk {
-    open(case, b"step");
-    print::hex(direction);
+pub fn step(
+    rt: &impl Print,
+    case: &[u8],
+    sheet: &[u8],
+    book: &[u8],
+    desk: Desk,
+    direction: u8,
+) -> Desk {
+    open(rt, case, b"step");
+    print::hex(rt, direction);
     let next = planner::step_by_value(sheet, book, desk, direction);
     let answer = next.answer;
     let after = next.desk;
     match answer {
-        Shown::Refused(refusal) => refused(refusal),
+        Shown::Refused(refusal) => refused(rt, refusal),
         Shown::Label(label) => {
-            print::text(b" label");
-            print::hex(label);
-            print::text(b" desk");
-            places(after);
+            print::text(rt, b" label");
+            print::hex(rt, label);
+            print::text(rt, b" desk");
+            places(rt, after);
         }
     }
     after
 }
 
 // Joins two sheets into this buffer.
-pub fn join(case: &[u8], first: &[u8], second: &[u8], sheet: &mut [u8]) {
-    open(case, b"join");
+pub fn join(rt: &impl Print, case: &[u8], first: &[u8], second: &[u8], sheet: &mut [u8]) {
+    open(rt, case, b"join");
     let written = planner::join(first, second, sheet);
     match written {
-        Written::Refused(refusal) => refused(refusal),
+        Written::Refused(refusal) => refused(rt, refusal),
         Written::Length(length) => {
-            print::text(b" length ");
-            print::number(length as u64);
-            print::text(b"\n");
-            open(case, b"join sheet");
-            print::bytes(sheet);
+            print::text(rt, b" length ");
+            print::number(rt, length as u64);
+            print::text(rt, b"\n");
+            open(rt, case, b"join sheet");
+            print::bytes(rt, sheet);
         }
     }
 }

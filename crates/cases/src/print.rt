@@ -1,51 +1,49 @@
 // Words, bytes and numbers on standard output.
-use libc::STDOUT_FILENO;
-
 const DIGITS: [u8; 16] = *b"0123456789ABCDEF";
 
 // These bytes as they are.
-pub fn text(words: &[u8]) {
-    io::write_all(STDOUT_FILENO, words);
+pub fn text(rt: &impl Print, words: &[u8]) {
+    let _ = rt.write_all(words);
 }
 
 // A number, in decimal.
-pub fn number(n: u64) {
-    io::print_decimal(STDOUT_FILENO, n);
+pub fn number(rt: &impl Print, n: u64) {
+    let _ = print!(rt; "{n}");
 }
 
 // A space and two hexadecimal digits.
-pub fn hex(byte: u8) {
+pub fn hex(rt: &impl Print, byte: u8) {
     let high = (byte / 16) as usize;
     let low = (byte % 16) as usize;
-    text(&[b' ', DIGITS[high], DIGITS[low]]);
+    text(rt, &[b' ', DIGITS[high], DIGITS[low]]);
 }
 
 // A line of bytes, each in hexadecimal.
-pub fn bytes(list: &[u8]) {
+pub fn bytes(rt: &impl Print, list: &[u8]) {
     let mut k: usize = 0;
     while k < list.len() {
-        hex(list[k]);
+        hex(rt, list[k]);
         k += 1;
     }
-    text(b"\n");
+    text(rt, b"\n");
 }
 
 // A space, and a number of an annotation.
-fn annotated(n: u16) {
+fn annotated(rt: &impl Print, n: u16) {
     if n == 65535 {
-        text(b" blank");
+        text(rt, b" blank");
         return;
     }
-    text(b" ");
-    number(n as u64);
+    text(rt, b" ");
+    number(rt, n as u64);
 }
 
 // A line of an annotation's numbers.
-pub fn annotation(list: &[u16]) {
+pub fn annotation(rt: &impl Print, list: &[u16]) {
     let mut k: usize = 0;
     while k < list.len() {
-        annotated(list[k]);
+        annotated(rt, list[k]);
         k += 1;
     }
-    text(b"\n");
+    text(rt, b"\n");
 }

@@ -84,83 +84,84 @@ const FIFTH: [u8; 29] =
 const BEHIND_TIE: [u8; 21] = *b"AR\x04\x00\x00PR\x00\x05\x01PR\x00\x0A\x01SY\x01\x00PM";
 
 // Tables only where process 1 reads promptly.
-fn case_p() {
+fn case_p(rt: &impl Print) {
     let mut sheet = CASE_P;
-    find(b"P", &sheet, 30, 16);
-    annotate(b"P", &sheet, &BOOK_P, 16);
+    find(rt, b"P", &sheet, 30, 16);
+    annotate(rt, b"P", &sheet, &BOOK_P, 16);
     sheet[PROMPTS_P] = 0x00;
-    find(b"P prompt 00", &sheet, 30, 16);
-    annotate(b"P prompt 00", &sheet, &BOOK_P, 16);
-    find(b"P delayed", &CASE_P_DELAYED, 30, 16);
+    find(rt, b"P prompt 00", &sheet, 30, 16);
+    annotate(rt, b"P prompt 00", &sheet, &BOOK_P, 16);
+    find(rt, b"P delayed", &CASE_P_DELAYED, 30, 16);
 }
 
 // Q with this prompt mask: its tables, and what its own book then is.
-fn try_q(case: &[u8], prompts: u8) {
+fn try_q(rt: &impl Print, case: &[u8], prompts: u8) {
     let mut sheet = CASE_Q;
     sheet[PROMPTS_Q] = prompts;
-    find(case, &sheet, 48, 48);
-    annotate(case, &sheet, &BOOK_Q, 48);
+    find(rt, case, &sheet, 48, 48);
+    annotate(rt, case, &sheet, &BOOK_Q, 48);
 }
 
 // Each prompt mask has tables of its own, or none.
-fn case_q() {
-    try_q(b"Q", 0x02);
-    try_q(b"Q prompt 00", 0x00);
-    try_q(b"Q prompt 04", 0x04);
-    try_q(b"Q prompt 06", 0x06);
+fn case_q(rt: &impl Print) {
+    try_q(rt, b"Q", 0x02);
+    try_q(rt, b"Q prompt 00", 0x00);
+    try_q(rt, b"Q prompt 04", 0x04);
+    try_q(rt, b"Q prompt 06", 0x06);
 }
 
 // One step through three processes, which two could share a table.
-fn chain() {
-    find(b"chain", &CHAIN, 44, 32);
-    find(b"chain tied", &CHAIN_TIED, 44, 32);
-    find(b"chain, the first delayed", &CHAIN_FIRST, 44, 32);
-    find(b"chain, the second delayed", &CHAIN_SECOND, 44, 32);
-    check(b"chain tied, the first delayed", &CHAIN_FIRST_TIED);
-    check(b"chain tied, the second delayed", &CHAIN_SECOND_TIED);
+fn chain(rt: &impl Print) {
+    find(rt, b"chain", &CHAIN, 44, 32);
+    find(rt, b"chain tied", &CHAIN_TIED, 44, 32);
+    find(rt, b"chain, the first delayed", &CHAIN_FIRST, 44, 32);
+    find(rt, b"chain, the second delayed", &CHAIN_SECOND, 44, 32);
+    check(rt, b"chain tied, the first delayed", &CHAIN_FIRST_TIED);
+    check(rt, b"chain tied, the second delayed", &CHAIN_SECOND_TIED);
 }
 
 // P with these inputs and prompt inputs of process 1.
-fn check_prompt(case: &[u8], inputs: u8, prompts: u8) {
+fn check_prompt(rt: &impl Print, case: &[u8], inputs: u8, prompts: u8) {
     let mut sheet = CASE_P;
     sheet[INPUTS_P] = inputs;
     sheet[PROMPTS_P] = prompts;
-    check(case, &sheet);
+    check(rt, case, &sheet);
 }
 
 // What is no prompt input, and which fault comes first.
-fn faults() {
-    check_prompt(b"PM 02", 0x02, 0x02);
-    check_prompt(b"PM of no input", 0x01, 0x02);
-    check_prompt(b"PM of the environment", 0x03, 0x01);
-    check_prompt(b"PM of its own output", 0x02, 0x04);
-    check_prompt(b"PM of its own output as an input", 0x06, 0x04);
-    check_prompt(b"PM of no variable", 0x02, 0x0A);
-    check(b"PM of a higher process", &OF_A_HIGHER);
-    check(b"PM of a taken output", &TAKEN_TOO);
+fn faults(rt: &impl Print) {
+    check_prompt(rt, b"PM 02", 0x02, 0x02);
+    check_prompt(rt, b"PM of no input", 0x01, 0x02);
+    check_prompt(rt, b"PM of the environment", 0x03, 0x01);
+    check_prompt(rt, b"PM of its own output", 0x02, 0x04);
+    check_prompt(rt, b"PM of its own output as an input", 0x06, 0x04);
+    check_prompt(rt, b"PM of no variable", 0x02, 0x0A);
+    check(rt, b"PM of a higher process", &OF_A_HIGHER);
+    check(rt, b"PM of a taken output", &TAKEN_TOO);
     check(
+        rt,
         b"PM before a bad SY and a variable without an owner",
         &BEFORE_LATER,
     );
 }
 
 // Where a PM may stand, and of how many bytes; and what it may be tied to.
-fn places() {
-    check(b"PM 00", &NO_PROMPTS);
+fn places(rt: &impl Print) {
+    check(rt, b"PM 00", &NO_PROMPTS);
     let mut tied = TIED_PLACES;
-    check(b"SY of prompts at other places", &tied);
+    check(rt, b"SY of prompts at other places", &tied);
     tied[THIRD_INPUTS] = 0x03;
-    check(b"SY of prompts at equal places", &tied);
-    check(b"PM cut off", &CUT_OFF);
-    check_front(b"PM cut off behind its mark", &CUT_OFF, 12);
-    check(b"fifth of PR and PM", &FIFTH);
-    check(b"PM behind an SY", &BEHIND_TIE);
+    check(rt, b"SY of prompts at equal places", &tied);
+    check(rt, b"PM cut off", &CUT_OFF);
+    check_front(rt, b"PM cut off behind its mark", &CUT_OFF, 12);
+    check(rt, b"fifth of PR and PM", &FIFTH);
+    check(rt, b"PM behind an SY", &BEHIND_TIE);
 }
 
-pub fn prompts() {
-    case_p();
-    case_q();
-    chain();
-    faults();
-    places();
+pub fn prompts(rt: &impl Print) {
+    case_p(rt);
+    case_q(rt);
+    chain(rt);
+    faults(rt);
+    places(rt);
 }

@@ -67,7 +67,7 @@ pub fn edges_then(mark: u8) -> [u8; 408]
     ensures { 408 ≡ length result }
 {
     let mut sheet = [0u8; 408];
-    bytes::copy(&CASE_E, &mut sheet);
+    sheet[..CASE_E.len()].copy_from_slice(&CASE_E);
     let mut k: usize = 0;
     while k < 65 {
         let at = 16 + 6 * k;

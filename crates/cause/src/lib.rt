@@ -1,11 +1,12 @@
 // Why a call was refused, in words, on standard error: the programs share it. Standard output has the refusal's number alone.
 #![tactic(auto)]
+
 ghost use Rattle.std.specs.Prelude.{◌≡◌};
 ghost use Rattle.model.specs.Calls.{check_of};
 ghost use Rattle.cause.specs.Fault.{faulty, FaultEnds};
 
-use libc::STDERR_FILENO;
 use model::{Refusal, Reply};
+use std::env::Env;
 
 // Is a whole record of these bytes at fault?
 fn is_faulty(sheet: &[u8]) -> bool
@@ -33,53 +34,68 @@ pub fn fault_end(sheet: &[u8]) -> usize
 }
 
 // ---- the words
-fn say(text: &[u8]) {
-    io::write_all(STDERR_FILENO, text);
+fn say(rt: &impl Eprint, text: &[u8]) {
+    input::say(rt, text);
 }
 
-fn say_cause(refusal: Refusal) {
+fn say_cause(rt: &impl Eprint, refusal: Refusal) {
     match refusal {
-        Refusal::SheetTooShort => say(b"the sheet ends within a record, or before EN"),
-        Refusal::WrongMark => say(b"a mark may not stand there, or bytes follow EN"),
-        Refusal::BadArchitecture => say(b"a field of AR is outside the rules"),
+        Refusal::SheetTooShort => say(rt, b"the sheet ends within a record, or before EN"),
+        Refusal::WrongMark => say(rt, b"a mark may not stand there, or bytes follow EN"),
+        Refusal::BadArchitecture => say(rt, b"a field of AR is outside the rules"),
         Refusal::BadProcess => say(
+            rt,
             b"a field of a PR or PM is outside the rules, or an output is taken",
         ),
         Refusal::NoOwnerOrTooMany => say(
+            rt,
             b"a variable has no owner, or there are more than 256 composed states",
         ),
-        Refusal::BadAutomaton => say(b"a field of AU is outside the rules"),
-        Refusal::BadEdge => say(b"a field of an ED or EX is outside the rules"),
-        Refusal::BufferTooShort => say(b"the buffer for the book or the sheet is too short"),
-        Refusal::AnnotationBufferTooShort => say(b"the annotation is too short"),
-        Refusal::BadBook => say(b"the book has the wrong length, or a byte other than the one due"),
-        Refusal::BadEntry => say(b"an entry has a value that it may not have, or a tie is broken"),
-        Refusal::NoSuchProcess => say(b"there is no process of that number"),
-        Refusal::PathBufferTooShort => say(b"the path buffer is too short"),
-        Refusal::BadDirectionOrDesk => say(b"the direction or the desk does not fit the sheet"),
+        Refusal::BadAutomaton => say(rt, b"a field of AU is outside the rules"),
+        Refusal::BadEdge => say(rt, b"a field of an ED or EX is outside the rules"),
+        Refusal::BufferTooShort => say(rt, b"the buffer for the book or the sheet is too short"),
+        Refusal::AnnotationBufferTooShort => say(rt, b"the annotation is too short"),
+        Refusal::BadBook => say(
+            rt,
+            b"the book has the wrong length, or a byte other than the one due",
+        ),
+        Refusal::BadEntry => say(
+            rt,
+            b"an entry has a value that it may not have, or a tie is broken",
+        ),
+        Refusal::NoSuchProcess => say(rt, b"there is no process of that number"),
+        Refusal::PathBufferTooShort => say(rt, b"the path buffer is too short"),
+        Refusal::BadDirectionOrDesk => say(rt, b"the direction or the desk does not fit the sheet"),
         Refusal::BadTie => say(
+            rt,
             b"an SY names a process that there is not, one process twice, or two that do not match",
         ),
-        Refusal::FrontsDiffer => say(b"the records before AU are not those of the first sheet"),
+        Refusal::FrontsDiffer => say(
+            rt,
+            b"the records before AU are not those of the first sheet",
+        ),
         Refusal::JoinTooLarge => say(
+            rt,
             b"joined with the first sheet there are more than 16 states or 64 edges",
         ),
         Refusal::BadPrompt => say(
+            rt,
             b"a prompt input of a PM is no input, or no output of a lower process",
         ),
     }
 }
 
 // Where the sheet is at fault.
-fn say_place(number: u32, sheet: &[u8]) {
+fn say_place(rt: &impl Eprint, number: u32, sheet: &[u8]) {
     if number == 1 {
-        say(b": after byte ");
+        say(rt, b": after byte ");
     } else if number == 2 {
-        say(b": at byte ");
+        say(rt, b": at byte ");
     } else {
-        say(b": in the record that ends at byte ");
+        say(rt, b": in the record that ends at byte ");
     }
-    io::print_decimal(STDERR_FILENO, fault_end(sheet) as u64);
+    let end = fault_end(sheet);
+    let _ = eprint!(rt; "{end}");
 }
 
 // The number of a fault of the sheet itself.
@@ -105,44 +121,44 @@ fn culprit(number: u32) -> usize {
 }
 
 // The line for a refusal for which the file that argument i names is at fault.
-fn explain_file(i: usize, refusal: Refusal, sheet: &[u8]) {
+fn explain_file<R: Env + Eprint>(rt: &R, i: usize, refusal: Refusal, sheet: &[u8]) {
     let number = refusal.number();
-    input::print_name(i);
-    say(b": ");
-    say_cause(refusal);
+    input::print_name(rt, i);
+    say(rt, b": ");
+    say_cause(rt, refusal);
     if is_of_sheet(number) {
-        say_place(number, sheet);
+        say_place(rt, number, sheet);
     }
-    say(b"\n");
+    say(rt, b"\n");
 }
 
 // The line for a refusal.
-pub fn explain(refusal: Refusal, sheet: &[u8]) {
-    explain_file(culprit(refusal.number()), refusal, sheet);
+pub fn explain<R: Env + Eprint>(rt: &R, refusal: Refusal, sheet: &[u8]) {
+    explain_file(rt, culprit(refusal.number()), refusal, sheet);
 }
 
 // The line for a sheet that is refused; none for a proper one.
-pub fn explain_sheet(sheet: &[u8]) {
+pub fn explain_sheet<R: Env + Eprint>(rt: &R, sheet: &[u8]) {
     let reply = planner::check(sheet);
     if let Reply::Refused(refusal) = reply {
-        explain(refusal, sheet);
+        explain(rt, refusal, sheet);
     }
 }
 
 // The line for a sheet or a book that is refused; none for proper ones.
-pub fn explain_book(sheet: &[u8], book: &[u8]) {
+pub fn explain_book<R: Env + Eprint>(rt: &R, sheet: &[u8], book: &[u8]) {
     let reading = planner::read(sheet, book);
     let answer = reading.answer;
     if let Reply::Refused(refusal) = answer {
-        explain(refusal, sheet);
+        explain(rt, refusal, sheet);
     }
 }
 
 // The line for two sheets that are not joined: the first is at fault only by itself.
-pub fn explain_joining(refusal: Refusal, first: &[u8], second: &[u8]) {
+pub fn explain_joining<R: Env + Eprint>(rt: &R, refusal: Refusal, first: &[u8], second: &[u8]) {
     let reply = planner::check(first);
     match reply {
-        Reply::Refused(_) => explain_file(1, refusal, first),
-        Reply::Done => explain_file(2, refusal, second),
+        Reply::Refused(_) => explain_file(rt, 1, refusal, first),
+        Reply::Done => explain_file(rt, 2, refusal, second),
     }
 }

@@ -1,15 +1,16 @@
 // Draws a sheet as one graph for Graphviz: its automaton and, with a book in a second file, each process's table; or `refused` and the number, with
 // the cause on standard error.
 #![tactic(auto)]
+
 ghost use Rattle.std.specs.Prelude.{◌≡◌, ◌≤◌, length};
 ghost use Rattle.sheet.specs.Struct.{IsProper, sheet_of};
 ghost use Rattle.template.specs.Holds.{Holds};
 ghost use Rattle.text.specs.Text.{text_or_refused};
 ghost use Rattle.draw.specs.Drawn.{drawn, with_book, drawn_with};
 
-use libc::STDOUT_FILENO;
 use model::Reply;
 use sheet::Sheet;
+use std::env::Env;
 
 // One byte more than the longest proper sheet, so that a byte after EN is seen.
 const SHEET_ROOM: usize = 434;
@@ -70,57 +71,55 @@ fn book_text(text: &mut [u8], sheet: &[u8], book: &[u8]) -> usize
 
 // ---- what the program writes on standard output
 // The text that is due for the bytes of a sheet.
-fn put_out(sheet: &[u8], text: &[u8])
+fn put_out(rt: &impl Print, sheet: &[u8], text: &[u8])
     requires { text.now ≡ drawn sheet.now }
 {
-    io::write_all(STDOUT_FILENO, text);
+    input::put(rt, text);
 }
 
 // The text that is due for the bytes of a sheet and of a book.
-fn put_out_with(sheet: &[u8], book: &[u8], text: &[u8])
+fn put_out_with(rt: &impl Print, sheet: &[u8], book: &[u8], text: &[u8])
     requires { text.now ≡ drawn_with sheet.now book.now }
 {
-    io::write_all(STDOUT_FILENO, text);
+    input::put(rt, text);
 }
 
 // The answer for the bytes of a sheet, and the cause of a refusal.
-fn answer(sheet: &[u8]) {
+fn answer<R: Env + Print + Eprint>(rt: &R, sheet: &[u8]) {
     let mut text = [0u8; 65536];
     let end = sheet_text(&mut text, sheet);
-    put_out(sheet, &text[..end]);
-    cause::explain_sheet(sheet);
+    put_out(rt, sheet, &text[..end]);
+    cause::explain_sheet(rt, sheet);
 }
 
 // The answer for the bytes of a sheet and of a book, and the cause of a refusal.
-fn answer_with(sheet: &[u8], book: &[u8]) {
+fn answer_with<R: Env + Print + Eprint>(rt: &R, sheet: &[u8], book: &[u8]) {
     let mut text = [0u8; 65536];
     let end = book_text(&mut text, sheet, book);
-    put_out_with(sheet, book, &text[..end]);
-    cause::explain_book(sheet, book);
+    put_out_with(rt, sheet, book, &text[..end]);
+    cause::explain_book(rt, sheet, book);
 }
 
 // With the book that the second argument names, if there is one.
-fn main() {
-    let count = os::arg_count();
+fn main(rt: HostRuntime) {
+    let count = input::argument_count(&rt);
     if count > 3 {
-        input::usage(b"draw [SHEET [BOOK]]");
+        input::usage(&rt, b"draw [SHEET [BOOK]]");
         return;
     }
-    let sheet_file = input::open(1);
-    if sheet_file < 0 {
+    let Some(mut sheet_file) = input::open(&rt, 1) else {
         return;
-    }
+    };
     let mut sheet = [0u8; SHEET_ROOM];
-    let sheet_end = io::read_full(sheet_file, &mut sheet);
+    let sheet_end = input::read_full(&mut sheet_file, &mut sheet);
     if count < 3 {
-        answer(&sheet[..sheet_end]);
+        answer(&rt, &sheet[..sheet_end]);
         return;
     }
-    let book_file = input::open(2);
-    if book_file < 0 {
+    let Some(mut book_file) = input::open(&rt, 2) else {
         return;
-    }
+    };
     let mut book = [0u8; BOOK_ROOM];
-    let book_end = io::read_full(book_file, &mut book);
-    answer_with(&sheet[..sheet_end], &book[..book_end]);
+    let book_end = input::read_full(&mut book_file, &mut book);
+    answer_with(&rt, &sheet[..sheet_end], &book[..book_end]);
 }

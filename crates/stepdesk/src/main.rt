@@ -1,14 +1,16 @@
 // Steps the tables of a book on a desk: prints the start, and for each direction on standard input the label and the states after it, or its refusal. A
 // direction is a word of one or two hexadecimal digits. Each line is written as soon as its direction is read, so directions may be typed.
 #![tactic(auto)]
+
 ghost use Rattle.std.specs.Prelude.{◌≡◌, ◌≤◌, length, false};
 ghost use Rattle.template.specs.Holds.{Holds};
 ghost use Rattle.stepdesk.specs.Printed.{opening, line_for};
 ghost use Rattle.stepdesk.specs.Ready.{BothRead, Ready};
 
-use libc::{STDERR_FILENO, STDIN_FILENO, STDOUT_FILENO};
 use model::{Desk, ProcessState, Reply};
 use sheet::Sheet;
+use std::env::Env;
+use std::io::Read;
 use stepping::Word;
 
 // One byte more than the longest proper sheet, so that a byte after EN is seen.
@@ -27,17 +29,17 @@ struct Session {
 
 // ---- what is written on standard output, and nothing else is
 // The opening for the bytes of two files.
-fn put_opening(sheet: &[u8], book: &[u8], text: &[u8])
+fn put_opening(rt: &impl Print, sheet: &[u8], book: &[u8], text: &[u8])
     requires { text.now ≡ opening sheet.now book.now }
 {
-    io::write_all(STDOUT_FILENO, text);
+    input::put(rt, text);
 }
 
 // The line for a direction, where the desk is this.
-fn put_line(sheet: &[u8], book: &[u8], desk: Desk, direction: u8, text: &[u8])
+fn put_line(rt: &impl Print, sheet: &[u8], book: &[u8], desk: Desk, direction: u8, text: &[u8])
     requires { text.now ≡ line_for sheet.now book.now desk direction }
 {
-    io::write_all(STDOUT_FILENO, text);
+    input::put(rt, text);
 }
 
 // ---- the opening
@@ -75,7 +77,7 @@ fn closed(session: Session) -> Session
 }
 
 // The word is a direction: the desk is stepped, and the line written.
-fn step(sheet: &[u8], book: &[u8], read: Sheet, session: Session) -> Session
+fn step(rt: &impl Print, sheet: &[u8], book: &[u8], read: Sheet, session: Session) -> Session
     requires { Ready sheet.now book.now read session }
     ensures { Ready sheet.now book.now read result }
 {
@@ -86,7 +88,7 @@ fn step(sheet: &[u8], book: &[u8], read: Sheet, session: Session) -> Session
     let mut text = [0u8; 64];
     let a = read.architecture;
     let end = stepping::step_text(&mut text, a, direction, next);
-    put_line(sheet, book, desk, direction, &text[..end]);
+    put_line(rt, sheet, book, desk, direction, &text[..end]);
     let after = next.desk;
     Session {
         desk: after,
@@ -96,7 +98,13 @@ fn step(sheet: &[u8], book: &[u8], read: Sheet, session: Session) -> Session
 }
 
 // A word ends, if there is one.
-fn end_word(sheet: &[u8], book: &[u8], read: Sheet, session: Session) -> Session
+fn end_word<R: Print + Eprint>(
+    rt: &R,
+    sheet: &[u8],
+    book: &[u8],
+    read: Sheet,
+    session: Session,
+) -> Session
     requires { Ready sheet.now book.now read session }
     ensures { Ready sheet.now book.now read result }
 {
@@ -105,22 +113,29 @@ fn end_word(sheet: &[u8], book: &[u8], read: Sheet, session: Session) -> Session
         return session;
     }
     if word.digits == 3 {
-        io::write_all(
-            STDERR_FILENO,
+        input::say(
+            rt,
             b"standard input: a direction is one or two hexadecimal digits\n",
         );
         return closed(session);
     }
-    step(sheet, book, read, session)
+    step(rt, sheet, book, read, session)
 }
 
 // One byte more.
-fn take_byte(sheet: &[u8], book: &[u8], read: Sheet, session: Session, byte: u8) -> Session
+fn take_byte<R: Print + Eprint>(
+    rt: &R,
+    sheet: &[u8],
+    book: &[u8],
+    read: Sheet,
+    session: Session,
+    byte: u8,
+) -> Session
     requires { Ready sheet.now book.now read session }
     ensures { Ready sheet.now book.now read result }
 {
     if stepping::is_blank(byte) {
-        return end_word(sheet, book, read, session);
+        return end_word(rt, sheet, book, read, session);
     }
     let desk = session.desk;
     let word = session.word;
@@ -132,7 +147,14 @@ fn take_byte(sheet: &[u8], book: &[u8], read: Sheet, session: Session, byte: u8)
 }
 
 // All of these bytes, or those up to the first word that is no direction.
-fn take_bytes(sheet: &[u8], book: &[u8], read: Sheet, start: Session, bytes: &[u8]) -> Session
+fn take_bytes<R: Print + Eprint>(
+    rt: &R,
+    sheet: &[u8],
+    book: &[u8],
+    read: Sheet,
+    start: Session,
+    bytes: &[u8],
+) -> Session
     requires { Ready sheet.now book.now read start }
     ensures { Ready sheet.now book.now read result }
 {
@@ -142,28 +164,41 @@ fn take_bytes(sheet: &[u8], book: &[u8], read: Sheet, start: Session, bytes: &[u
         if !session.is_open {
             return session;
         }
-        session = take_byte(sheet, book, read, session, bytes[k]);
+        session = take_byte(rt, sheet, book, read, session, bytes[k]);
         k += 1;
     }
     session
 }
 
 // Reads once. Where nothing comes, the last word ends.
-fn take_some(sheet: &[u8], book: &[u8], read: Sheet, session: Session) -> Session
+fn take_some<R: Print + Eprint, S: Read>(
+    rt: &R,
+    source: &mut S,
+    sheet: &[u8],
+    book: &[u8],
+    read: Sheet,
+    session: Session,
+) -> Session
     requires { Ready sheet.now book.now read session }
     ensures { Ready sheet.now book.now read result }
 {
     let mut bytes = [0u8; 512];
-    let got = libc::read(STDIN_FILENO, &mut bytes);
-    let n = io::count(got, &bytes);
+    let n = source.read(&mut bytes).unwrap_or(0);
     if n == 0 {
-        return closed(end_word(sheet, book, read, session));
+        return closed(end_word(rt, sheet, book, read, session));
     }
-    take_bytes(sheet, book, read, session, &bytes[..n])
+    take_bytes(rt, sheet, book, read, session, &bytes[..n])
 }
 
 // A proved loop has to end, and nothing says that standard input does: so the turns are counted down from a number that no run uses up.
-fn take_all(sheet: &[u8], book: &[u8], read: Sheet, start: Session)
+fn take_all<R: Print + Eprint, S: Read>(
+    rt: &R,
+    source: &mut S,
+    sheet: &[u8],
+    book: &[u8],
+    read: Sheet,
+    start: Session,
+)
     requires { Ready sheet.now book.now read start }
 {
     let mut session = start;
@@ -172,13 +207,13 @@ fn take_all(sheet: &[u8], book: &[u8], read: Sheet, start: Session)
         if !session.is_open {
             return;
         }
-        session = take_some(sheet, book, read, session);
+        session = take_some(rt, source, sheet, book, read, session);
         turns -= 1;
     }
 }
 
 // A fresh desk, and then all directions.
-fn step_all(sheet: &[u8], book: &[u8], read: Sheet)
+fn step_all<R: Input + Print + Eprint>(rt: &R, sheet: &[u8], book: &[u8], read: Sheet)
     requires { BothRead sheet.now book.now read }
 {
     let states = [ProcessState(0); 4];
@@ -191,6 +226,8 @@ fn step_all(sheet: &[u8], book: &[u8], read: Sheet)
     );
     let desk = made.desk;
     take_all(
+        rt,
+        &mut rt.reader(),
         sheet,
         book,
         read,
@@ -203,35 +240,35 @@ fn step_all(sheet: &[u8], book: &[u8], read: Sheet)
 }
 
 // The answer for the bytes of two files, and the cause of a refusal.
-fn answer(sheet: &[u8], book: &[u8]) {
+fn answer<R: Env + Input + Print + Eprint>(rt: &R, sheet: &[u8], book: &[u8]) {
     let mut text = [0u8; 64];
     let end = opening_text(&mut text, sheet, book);
-    put_opening(sheet, book, &text[..end]);
+    put_opening(rt, sheet, book, &text[..end]);
     let book_read = planner::read(sheet, book);
     let answer = book_read.answer;
     match answer {
-        Reply::Refused(refusal) => cause::explain(refusal, sheet),
+        Reply::Refused(refusal) => cause::explain(rt, refusal, sheet),
         Reply::Done => {
             let reading = sheet::read(sheet);
             let read = reading.sheet;
-            step_all(sheet, book, read);
+            step_all(rt, sheet, book, read);
         }
     }
 }
 
-fn main() {
-    if os::arg_count() != 3 {
-        input::usage(b"desk SHEET BOOK");
+fn main(rt: HostRuntime) {
+    if input::argument_count(&rt) != 3 {
+        input::usage(&rt, b"desk SHEET BOOK");
         return;
     }
-    let sheet_file = input::open(1);
-    let book_file = input::open(2);
-    if sheet_file < 0 || book_file < 0 {
+    let sheet_file = input::open(&rt, 1);
+    let book_file = input::open(&rt, 2);
+    let (Some(mut sheet_file), Some(mut book_file)) = (sheet_file, book_file) else {
         return;
-    }
+    };
     let mut sheet = [0u8; SHEET_ROOM];
-    let sheet_end = io::read_full(sheet_file, &mut sheet);
+    let sheet_end = input::read_full(&mut sheet_file, &mut sheet);
     let mut book = [0u8; BOOK_ROOM];
-    let book_end = io::read_full(book_file, &mut book);
-    answer(&sheet[..sheet_end], &book[..book_end]);
+    let book_end = input::read_full(&mut book_file, &mut book);
+    answer(&rt, &sheet[..sheet_end], &book[..book_end]);
 }
