@@ -15,39 +15,39 @@ use Rattle.choice.proofs.KindWords.{fits_turn}
 use Rattle.choice.proofs.is_misfit.Statement.{statement}
 use Rattle.choice.proofs.is_misfit.Tie as tie
 
-abbrev invariant-loop : tie.invariant-loop
+abbrev invariant-loop : tie.invariant-loop-k
 invariant-loop kinds n tables k₀ k = (k ≤ n) × (fits (map kind_of (drop k (take n kinds))) (drop k tables) ≡ fits (kinds_of kinds n) tables)
 
-abbrev decreases-loop : tie.decreases-loop
+abbrev decreases-loop : tie.decreases-loop-k
 decreases-loop kinds n tables k₀ k = n - k
 
 -- `while k < n`
-loop-holds : tie.Need-loop-init invariant-loop decreases-loop
+loop-holds : tie.Need-loop-k-init invariant-loop decreases-loop
 loop-holds c = (omega arith, refl)
 
 -- `if !may_be(kinds[k], tables[k])`
-mul-may-be : tie.Need-overflow-mul-may-be invariant-loop decreases-loop
+mul-may-be : tie.Need-offset_bounds-kinds-k invariant-loop decreases-loop
 mul-may-be c = omega arith
 
 -- `if !may_be(kinds[k], tables[k])`
-shared-slice-read-may-be : tie.Need-shared-slice-read-may-be invariant-loop decreases-loop
+shared-slice-read-may-be : tie.Need-bounds-kinds-k invariant-loop decreases-loop
 shared-slice-read-may-be c = omega arith
 
 -- `if !may_be(kinds[k], tables[k])`
-shared-slice-read-may-be-2 : tie.Need-shared-slice-read-may-be-2 invariant-loop decreases-loop
+shared-slice-read-may-be-2 : tie.Need-bounds-tables-k invariant-loop decreases-loop
 shared-slice-read-may-be-2 c = omega arith
 
 -- `if !may_be(kinds[k], tables[k])`
-may-be-requires : tie.Need-may-be-requires invariant-loop decreases-loop
+may-be-requires : tie.Need-may_be-requires invariant-loop decreases-loop
 may-be-requires c κs = search rules
 
-module _ (c : tie.After-may-be invariant-loop decreases-loop) where
+module _ (c : tie.After-may_be invariant-loop decreases-loop) where
   -- the entry of the function, and the index
   abbrev entry : tie.Start invariant-loop decreases-loop
   entry = c.before.before.before.before.before.before.before
 
   abbrev k : ℕ
-  k = c.before.before.before.before.loop.k
+  k = c.loop-k.k
 
   -- the test of entry k, and that from the next entry on
   abbrev test : Bool
@@ -59,41 +59,41 @@ module _ (c : tie.After-may-be invariant-loop decreases-loop) where
   here : fits (kinds_of entry.args.kinds.now entry.args.n) entry.args.tables.now ≡ (test && rest)
   here =
       let a = entry.args in
-      let h = c.before.before.before.loop-test.true in
-      sym c.before.before.before.before.loop.invariant.1 ∙ fits_turn a.kinds.now a.tables.now a.n k h entry.pre.0 (omega (arith, h, entry.pre.1))
+      let h = c.loop-k-test.true in
+      sym c.loop-k.invariant.1 ∙ fits_turn a.kinds.now a.tables.now a.n k h entry.requires.0 (omega (arith, h, entry.requires.1))
 
 -- `return true`
-returns : tie.Need-returns invariant-loop decreases-loop
-returns c = sym (ap not (here c.before ∙ and_off _ (sym c.before.may_be.ensures ∙ not-true _ c.if1.true)))
+returns : tie.Need-returns-then-not-may_be invariant-loop decreases-loop
+returns c = sym (ap not (here c.before ∙ and_off _ (sym c.may_be.ensures ∙ not-true _ (ap not c.if-not-may_be.true))))
 
 -- `k += 1`
-add-k : tie.Need-overflow-add-k invariant-loop decreases-loop
+add-k : tie.Need-overflow_add-k invariant-loop decreases-loop
 add-k c = omega arith
 
 -- in the loop
-abbrev turn : tie.Else1 invariant-loop decreases-loop → tie.In-loop invariant-loop decreases-loop
+abbrev turn : tie.Else-not-may_be invariant-loop decreases-loop → tie.In-loop-k invariant-loop decreases-loop
 turn c = c.before.before.before.before
 
 -- `while k < n`
-loop-less : tie.Need-loop-smaller invariant-loop decreases-loop
-loop-less c = omega (arith, (turn c).loop-test.true)
+loop-less : tie.Need-loop-k-smaller invariant-loop decreases-loop
+loop-less c = omega (arith, (turn c).loop-k-test.true)
 
 -- `while k < n`
-loop-again : tie.Need-loop-preserved invariant-loop decreases-loop
-loop-again c = (omega (arith, (turn c).loop-test.true), sym (here c.before ∙ and_on _ (sym c.before.may_be.ensures ∙ not-false _ c.if1.false)))
+loop-again : tie.Need-loop-k-preserved invariant-loop decreases-loop
+loop-again c = (omega (arith, (turn c).loop-k-test.true), sym (here c.before ∙ and_on _ (sym c.may_be.ensures ∙ not-false _ (ap not c.if-not-may_be.false))))
 
 -- `false`
-returns-2 : tie.Need-returns-2 invariant-loop decreases-loop
+returns-2 : tie.Need-returns invariant-loop decreases-loop
 unfolding fits
 returns-2 c =
-    let l = c.before.loop in
+    let l = c.loop-k in
     let b = c.before.before.before.before in
     let few = length-take-le b.args.n b.args.kinds.now b.requires.0 in
-    let done = drop_of_length-le (take b.args.n b.args.kinds.now) {i = l.k} (omega (arith, few, c.loop-test.false)) in
+    let done = drop_of_length-le (take b.args.n b.args.kinds.now) {i = l.k} (omega (arith, few, c.loop-k-test.false)) in
     ap not (rw done at l.invariant.1)
 
-pub is-misfit-spec : {M : Type 1} → statement M
-is-misfit-spec =
+pub is_misfit_spec : {M : Type 1} → statement M
+is_misfit_spec =
     tie.close
     (tie.spec
     invariant-loop

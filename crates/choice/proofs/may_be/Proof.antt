@@ -7,14 +7,14 @@ use Rattle.choice.proofs.may_be.Statement.{statement}
 use Rattle.choice.proofs.may_be.Tie as tie
 
 -- `return value as u16 & most == value as u16`
-returns : tie.Need-returns
+returns : tie.Need-returns-then-kind-eq0
 unfolding kind_of if may within
-returns c = simp (eq-eqb _ _ c.if1.true)
+returns c = simp (eq-eqb _ _ c.if-kind-eq0.true)
 
 -- `(value as u16) < most`
-returns-2 : tie.Need-returns-2
+returns-2 : tie.Need-returns
 unfolding kind_of if may
-returns-2 c = simp (ne_eqb _ _ c.if1.false)
+returns-2 c = simp (ne_eqb _ _ c.if-kind-eq0.false)
 
-pub may-be-spec : {M : Type 1} → statement M
-may-be-spec = tie.close (tie.spec returns returns-2)
+pub may_be_spec : {M : Type 1} → statement M
+may_be_spec = tie.close (tie.spec returns returns-2)

@@ -5,15 +5,15 @@ use Rattle.choice.proofs.put_row.Statement.{statement}
 use Rattle.choice.proofs.put_row.Tie as tie
 
 -- `let after_output = append::word(kinds, at, output_word(outputs))`
-output-word-requires : tie.Need-output-word-requires
+output-word-requires : tie.Need-output_word-requires
 output-word-requires c κs = search rules
 
 -- `let after_output = append::word(kinds, at, output_word(outputs))`
-word-requires : tie.Need-word-requires
+word-requires : tie.Need-word-after_output-requires
 word-requires c κs = search rules
 
 -- `append::fill(kinds, after_output, next_word(bound), states)`
-next-word-requires : tie.Need-next-word-requires
+next-word-requires : tie.Need-next_word-requires
 next-word-requires c κs = search rules
 
 -- `append::fill(kinds, after_output, next_word(bound), states)`
@@ -21,7 +21,7 @@ fill-requires : tie.Need-fill-requires
 fill-requires c κs = search rules
 
 -- `append::fill(kinds, after_output, next_word(bound), states)`
-same_length : tie.Need-same-length
+same_length : tie.Need-shape_of-kinds
 same_length c = search rules
 
 -- `append::fill(kinds, after_output, next_word(bound), states)`
@@ -29,10 +29,10 @@ returns : tie.Need-returns
 returns c =
     let output = c.before.before.before.before.before.before.before in
     let nexts = c.before.before in
-    rw (← output.before.output-word.ensures, ← nexts.before.next_word.ensures) (append_more output.word.ensures nexts.fill.ensures)
+    rw (← output.output_word.ensures, ← nexts.next_word.ensures) (append_more output.word-after_output.ensures nexts.fill.ensures)
 
-pub put-row-spec : {M : Type 1} → statement M
-put-row-spec =
+pub put_row_spec : {M : Type 1} → statement M
+put_row_spec =
     tie.close
     (tie.spec
     output-word-requires
