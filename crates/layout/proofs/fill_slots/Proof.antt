@@ -15,61 +15,61 @@ use Rattle.layout.proofs.FormWords.{slots_back, bytes_form, form_from, form_open
 use Rattle.layout.proofs.fill_slots.Statement.{statement}
 use Rattle.layout.proofs.fill_slots.Tie as tie
 
-abbrev invariant-loop : tie.invariant-loop
+abbrev invariant-loop : tie.invariant-loop-i
 invariant-loop slots₀ a n at₀ i₀ slots at i = (i ≤ n) × Appending slots₀ 0 (map slot_code (form (architecture_of a))) at slots (form_from a i)
 
-abbrev decreases-loop : tie.decreases-loop
+abbrev decreases-loop : tie.decreases-loop-i
 decreases-loop slots₀ a n at₀ i₀ slots at i = n - i
 
 -- back into the loop
-abbrev turn : tie.After-slice-known2 invariant-loop decreases-loop → tie.In-loop invariant-loop decreases-loop
+abbrev turn : tie.After-slice_known-in-loop-i-1 invariant-loop decreases-loop → tie.In-loop-i invariant-loop decreases-loop
 turn c = c.before.before.before.before
 
 -- `while i < n`
-loop-holds : tie.Need-loop-init invariant-loop decreases-loop
+loop-holds : tie.Need-loop-i-init invariant-loop decreases-loop
 unfolding form architecture_of
 loop-holds c = (omega arith, appending_none _ _ _)
 
-module _ (c : tie.At-loop invariant-loop decreases-loop) where
+module _ (c : tie.At-loop-i invariant-loop decreases-loop) where
   -- the entry of the function
   abbrev entry : tie.Start invariant-loop decreases-loop
   entry = c.before.before
 
   -- there is room for all words
   room : 0 + length (map slot_code (form (architecture_of entry.args.a))) ≤ length entry.args.slots.now
-  room = omega (arith, form_short entry.args.a entry.pre.0, entry.pre.1)
+  room = omega (arith, form_short entry.args.a entry.requires.0, entry.requires.1)
 
 -- the records of process i are due next
-next : (c : tie.In-loop invariant-loop decreases-loop) → let a = (entry c.before).args.a in let i = c.before.loop.i in Opens (form_from a i) (process_codes a i) (form_from a (i + 1))
-next c = form_open (entry c.before).args.a c.before.loop.i c.loop-test.true
+next : (c : tie.In-loop-i invariant-loop decreases-loop) → let a = (entry c.before).args.a in let i = c.loop-i.i in Opens (form_from a i) (process_codes a i) (form_from a (i + 1))
+next c = form_open (entry c.before).args.a c.loop-i.i c.loop-i-test.true
 
 -- `at = put_records(slots, at, a, i)`
-put-records-requires : tie.Need-put-records-requires invariant-loop decreases-loop
-put-records-requires c κs = let l = c.before.before in ((entry l).requires.0, (c.before.loop-test.true, appending_room l.loop.invariant.1 (room l) (next c.before)))
+put-records-requires : tie.Need-put_records-at-requires invariant-loop decreases-loop
+put-records-requires c κs = let l = c.before.before in ((entry l).requires.0, (c.loop-i-test.true, appending_room l.loop-i.invariant.1 (room l) (next c.before)))
 
 -- `i += 1`
-add-i : tie.Need-overflow-add-i invariant-loop decreases-loop
-add-i c = omega (arith, (turn c).loop-test.true, (entry (turn c).before).pre.0.arrays.few_processes)
+add-i : tie.Need-overflow_add-i invariant-loop decreases-loop
+add-i c = omega (arith, (turn c).loop-i-test.true, (entry (turn c).before).requires.0.arrays.few_processes)
 
 -- `while i < n`
-loop-less : tie.Need-loop-smaller invariant-loop decreases-loop
-loop-less c = omega (arith, (turn c).loop-test.true)
+loop-less : tie.Need-loop-i-smaller invariant-loop decreases-loop
+loop-less c = omega (arith, (turn c).loop-i-test.true)
 
 -- `while i < n`
-loop-again : tie.Need-loop-preserved invariant-loop decreases-loop
-loop-again c = (omega (arith, (turn c).loop-test.true), appending_next (turn c).before.loop.invariant.1 (next (turn c)) c.before.before.put-records.ensures)
+loop-again : tie.Need-loop-i-preserved invariant-loop decreases-loop
+loop-again c = (omega (arith, (turn c).loop-i-test.true), appending_next (turn c).loop-i.invariant.1 (next (turn c)) c.put_records-at.ensures)
 
 -- behind the loop EN is due
-module _ (c : tie.After-loop invariant-loop decreases-loop) where
-  due-last : Opens (form_from (entry c.before).args.a c.before.loop.i) (suc 0x45 ∷ suc 0x4E ∷ []) []
+module _ (c : tie.After-loop-i invariant-loop decreases-loop) where
+  due-last : Opens (form_from (entry c.before).args.a c.loop-i.i) (suc 0x45 ∷ suc 0x4E ∷ []) []
   unfolding slot_code
-  due-last = record { is = form_closing (entry c.before).args.a c.before.loop.i (omega (arith, c.loop-test.false, c.before.loop.invariant.0)) }
+  due-last = record { is = form_closing (entry c.before).args.a c.loop-i.i (omega (arith, c.loop-i-test.false, c.loop-i.invariant.0)) }
 
-  room-last : c.before.loop.at + 2 ≤ length c.before.loop.slots
-  room-last = appending_room c.before.loop.invariant.1 (room c.before) due-last
+  room-last : c.loop-i.at + 2 ≤ length c.loop-i.slots
+  room-last = appending_room c.loop-i.invariant.1 (room c.before) due-last
 
 -- `let within_end = append::word(slots, at, due(sheet::EN[0]))`
-array-read-due : tie.Need-array-read-due invariant-loop decreases-loop
+array-read-due : tie.Need-bounds-0 invariant-loop decreases-loop
 array-read-due c = search rules
 
 -- `let within_end = append::word(slots, at, due(sheet::EN[0]))`
@@ -77,11 +77,11 @@ due-requires : tie.Need-due-requires invariant-loop decreases-loop
 due-requires c κs = search rules
 
 -- `let within_end = append::word(slots, at, due(sheet::EN[0]))`
-word-requires : tie.Need-word-requires invariant-loop decreases-loop
-word-requires c κs = omega (arith, room-last c.before.before)
+word-requires : tie.Need-word-within_end-requires invariant-loop decreases-loop
+word-requires c κs = omega (arith, room-last c.before.before.before.before)
 
 -- `append::word(slots, within_end, due(sheet::EN[1]))`
-array-read-due-2 : tie.Need-array-read-due-2 invariant-loop decreases-loop
+array-read-due-2 : tie.Need-bounds-1 invariant-loop decreases-loop
 array-read-due-2 c = search rules
 
 -- `append::word(slots, within_end, due(sheet::EN[1]))`
@@ -89,31 +89,31 @@ due-requires-2 : tie.Need-due-requires-2 invariant-loop decreases-loop
 due-requires-2 c κs = search rules
 
 -- `append::word(slots, within_end, due(sheet::EN[1]))`
-word-requires-2 : tie.Need-word-requires-2 invariant-loop decreases-loop
+word-requires-2 : tie.Need-word-requires invariant-loop decreases-loop
 word-requires-2 c κs =
-    let first = c.before.before.before.before in
-    omega (arith, room-last first.before.before.before, first.word.ensures.ends, first.word.auto.0)
+    let first = c.before.before.before.before.before.before in
+    omega (arith, room-last first.before.before.before.before.before, first.word-within_end.ensures.ends, first.word-within_end.auto.words)
 
-module _ (c : tie.After-slice-known4 invariant-loop decreases-loop) where
+module _ (c : tie.After-slice_known-3-1 invariant-loop decreases-loop) where
   -- the first word of EN, and the last turn of the loop
-  abbrev first : tie.After-word invariant-loop decreases-loop
-  first = c.before.before.before.before.before.before.before
+  abbrev first : tie.After-word-within_end invariant-loop decreases-loop
+  first = c.before.before.before.before.before.before.before.before.before
 
-  abbrev ended : tie.After-loop invariant-loop decreases-loop
-  ended = first.before.before.before
+  abbrev ended : tie.After-loop-i invariant-loop decreases-loop
+  ended = first.before.before.before.before.before
 
   abbrev start : tie.Start invariant-loop decreases-loop
   start = entry ended.before
 
   -- all words were written
-  whole : Appends start.args.slots.now 0 (map slot_code (form (architecture_of start.args.a))) c.before.before.word2.result c.before.before.word2.new.0
+  whole : Appends start.args.slots.now 0 (map slot_code (form (architecture_of start.args.a))) c.word.result c.word.new.words
   whole =
       let last = c.before.before in
-      let two = append_more first.word.ensures last.word2.ensures in
-      appending_all (appending_next ended.before.loop.inv.1 (due-last ended) (rw (← first.before.due.ensures, ← last.before.due2.ensures) two))
+      let two = append_more first.word-within_end.ensures last.word.ensures in
+      appending_all (appending_next ended.loop-i.invariant.1 (due-last ended) (rw (← first.due.ensures, ← last.due-2.ensures) two))
 
 -- `append::word(slots, within_end, due(sheet::EN[1]))`
-same_length : tie.Need-same-length invariant-loop decreases-loop
+same_length : tie.Need-shape_of-slots invariant-loop decreases-loop
 same_length c = append_length (whole c) (omega (arith, (whole c).ends, room (ended c).before))
 
 -- `append::word(slots, within_end, due(sheet::EN[1]))`
@@ -126,8 +126,8 @@ returns c =
       ap (map slot_of) (whole c).is ∙ slots_back (form (architecture_of a)) (bytes_form (architecture_of a) z.proper),
     )
 
-pub fill-slots-spec : {M : Type 1} → statement M
-fill-slots-spec =
+pub fill_slots_spec : {M : Type 1} → statement M
+fill_slots_spec =
     tie.close
     (tie.spec
     invariant-loop
