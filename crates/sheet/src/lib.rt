@@ -1,5 +1,6 @@
 // The sheet file: its marks, and reading it into a struct up to its first fault in file order.
 #![tactic(auto)]
+
 ghost use Rattle.std.specs.Prelude.{◌≡◌, ◌≤◌, length};
 ghost use Rattle.model.specs.declared.Reply.{Reply};
 ghost use Rattle.model.specs.Reading.{marked, read_front, read_sheet};

@@ -6,40 +6,40 @@ use Rattle.sheet.proofs.read.Statement.{statement}
 use Rattle.sheet.proofs.read.Tie as tie
 
 -- `let front = read_front(sheet)`
-read-front-requires : tie.Need-read-front-requires
+read-front-requires : tie.Need-read_front-front-requires
 read-front-requires c κs = search rules
 
 -- `let automaton = Automaton::opened(0, AutomatonState(0), 0)`
-enum_told : tie.Need-enum-told
+enum_told : tie.Need-enum_told-1
 enum_told c = search rules
 
 -- `let automaton = Automaton::opened(0, AutomatonState(0), 0)`
-opened-requires : tie.Need-opened-requires
+opened-requires : tie.Need-opened-automaton-requires
 opened-requires c κs = search rules
 
 -- `return Reading`
-returns : tie.Need-returns
+returns : tie.Need-returns-in-Refused
 returns c =
-    let told = c.before.enum_told.given in
-    let f = c.before.before.before.before.read-front in
-    let refused = front_refused _ f.result.answer f.result.architecture f.result.end f.ensures.0 told.0.0 told.1 in
-    (sheet_refused _ _ f.result.answer told.0.0 told.1 refused, record { architecture = f.ensures.1.arrays; automaton = c.opened.ensures.1.0 })
+    let told = c.in-Refused in
+    let f = c.read_front-front in
+    let refused = front_refused _ f.result.answer f.result.architecture f.result.end f.ensures.0 told.field-0 told.is in
+    (sheet_refused _ _ f.result.answer told.field-0 told.is refused, record { architecture = f.ensures.1.arrays; automaton = c.opened-automaton.ensures.1.0 })
 
 -- `let automaton = Automaton::opened(0, AutomatonState(0), 0)`
-enum-told-2 : tie.Need-enum-told-2
+enum-told-2 : tie.Need-enum_told-in_default
 enum-told-2 c = search rules
 
 -- `let behind = read_automaton(sheet, front)`
-read-automaton-requires : tie.Need-read-automaton-requires
+read-automaton-requires : tie.Need-read_automaton-behind-requires
 read-automaton-requires c κs = search rules
 
 -- `Reading`
-returns-2 : tie.Need-returns-2
+returns-2 : tie.Need-returns
 returns-2 c =
-    let told = c.before.before.enum-told2.given in
-    let f = c.before.before.before.before.before.read-front in
-    let u = c.before.read-automaton in
-    let done = front_done _ f.result.answer f.result.architecture f.result.end f.ensures.0 told.1 in
+    let told = c.in_default in
+    let f = c.read_front-front in
+    let u = c.read_automaton-behind in
+    let done = front_done _ f.result.answer f.result.architecture f.result.end f.ensures.0 told.is in
     (sheet_behind _ _ u.result.answer f.result.end done u.ensures.is, record { architecture = f.ensures.1.arrays; automaton = u.ensures.arrays })
 
 pub read_spec : {M : Type 1} → statement M

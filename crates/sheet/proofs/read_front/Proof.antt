@@ -1,6 +1,6 @@
 -- `sheet::read_front` meets its contract. Each return goes by the tests that led there: those that failed go on, the last one refuses.
 use mathlib.Core.Path.{◌≡◌, refl, sym, ap, ap₂, ◌∙◌}
-use mathlib.Core.Bool.{false}
+use mathlib.Core.Bool.{false, not}
 use mathlib.Core.List.{List}
 use Prim.Native.Nat.{ℕ}
 use native.Mathlib.Omega.{arith}
@@ -22,44 +22,44 @@ use Rattle.sheet.proofs.read_front.Statement.{statement}
 use Rattle.sheet.proofs.read_front.Tie as tie
 
 -- ---- the positions: the mark is whole; it is AR; all of AR is there; its fields are in order
-abbrev entry : tie.After-opened → tie.Start
+abbrev entry : tie.After-opened-nothing → tie.Start
 entry c = c.before.before
 
-abbrev bytes : tie.After-opened → List ℕ
+abbrev bytes : tie.After-opened-nothing → List ℕ
 bytes c = (entry c).args.sheet.now
 
-abbrev reading : tie.Else2 → tie.Else1
+abbrev reading : tie.Else-not-is_marked → tie.Else-sheet-lt2
 reading c = c.before.before.before
 
 abbrev Long : Type 0
-Long = tie.Else3
+Long = tie.Else-sheet-lt5
 
-abbrev opening-at : Long → tie.After-opened
+abbrev opening-at : Long → tie.After-opened-nothing
 opening-at c = (reading c.before).before
 
-abbrev fields : tie.After-ar-fault → Long
+abbrev fields : tie.After-ar_fault → Long
 fields c = c.before.before.before.before
 
 -- nothing was read
-nothing : (c : tie.After-opened) → FrontKnown (bytes c) c.opened.result
-nothing c = c.opened.ensures.1 (bytes c) (omega arith)
+nothing : (c : tie.After-opened-nothing) → FrontKnown (bytes c) c.opened-nothing.result
+nothing c = c.opened-nothing.ensures.1 (bytes c) (omega arith)
 
-whole : (c : tie.Else1) → short (bytes c.before) 0 2 ≡ false
-whole c = enough (bytes c.before) 0 2 (omega arith) (omega (arith, c.if1.false))
+whole : (c : tie.Else-sheet-lt2) → short (bytes c.before) 0 2 ≡ false
+whole c = enough (bytes c.before) 0 2 (omega arith) (omega (arith, c.if-sheet-lt2.false))
 
 -- AR stands here: its length and its fields decide
-opens : (c : tie.Else2) → let b = bytes (reading c).before in read_front b ≡ opening b
-opens c = front_is (bytes (reading c).before) ∙ go _ _ (whole (reading c)) ∙ go _ _ (passes c.before.is-marked.ensures c.if2.false)
+opens : (c : tie.Else-not-is_marked) → let b = bytes (reading c).before in read_front b ≡ opening b
+opens c = front_is (bytes (reading c).before) ∙ go _ _ (whole (reading c)) ∙ go _ _ (passes c.is_marked.ensures (ap not c.if-not-is_marked.false))
 
 long : (c : Long) → short (bytes (opening-at c)) 0 5 ≡ false
-long c = enough (bytes (opening-at c)) 0 5 (omega arith) (omega (arith, c.if3.false))
+long c = enough (bytes (opening-at c)) 0 5 (omega arith) (omega (arith, c.if-sheet-lt5.false))
 
-sound : (c : tie.Else4) → ar_fault (architecture_at (bytes (opening-at (fields c.before)))) ≡ false
-sound c = sym c.before.ar-fault.ensures ∙ c.if4.false
+sound : (c : tie.Else-ar_fault) → ar_fault (architecture_at (bytes (opening-at (fields c.before)))) ≡ false
+sound c = sym c.ar_fault.ensures ∙ c.if-ar_fault.false
 
 -- ---- the needs
 -- `let nothing = opened(0, 0, 0, 0)`
-opened-requires : tie.Need-opened-requires
+opened-requires : tie.Need-opened-nothing-requires
 unfolding ar_fault
 opened-requires c κs = refl
 
@@ -68,96 +68,96 @@ refuse-requires : tie.Need-refuse-requires
 refuse-requires c κs = search rules
 
 -- `return refuse(Refusal::SheetTooShort, nothing)`
-returns : tie.Need-returns
+returns : tie.Need-returns-then-sheet-lt2
 returns c =
     let o = c.before.before in
     let b = bytes o in
-    (c.refuse.ensures.0 ∙ sym (front_is b ∙ stop _ _ (too_few b 0 2 (omega (arith, c.before.if1.true)))), c.refuse.ensures.1 b (nothing o))
+    (c.refuse.ensures.0 ∙ sym (front_is b ∙ stop _ _ (too_few b 0 2 (omega (arith, c.if-sheet-lt2.true)))), c.refuse.ensures.1 b (nothing o))
 
 -- `if !is_marked(sheet, 0, &AR)`
-is-marked-requires : tie.Need-is-marked-requires
+is-marked-requires : tie.Need-is_marked-requires
 is-marked-requires c κs = search rules
 
 -- `return refuse(Refusal::WrongMark, nothing)`
-refuse-requires-2 : tie.Need-refuse-requires-2
+refuse-requires-2 : tie.Need-refuse-requires-then-not-is_marked
 refuse-requires-2 c κs = search rules
 
 -- `return refuse(Refusal::WrongMark, nothing)`
-returns-2 : tie.Need-returns-2
+returns-2 : tie.Need-returns-then-not-is_marked
 returns-2 c =
     let w = c.before.before.before.before in
     let b = bytes w.before in (
-      c.refuse2.ensures.0 ∙ sym (front_is b ∙ go _ _ (whole w) ∙ stop _ _ (fails c.before.before.is-marked.ensures c.before.if2.true)),
-      c.refuse2.ensures.1 b (nothing w.before),
+      c.refuse-then-not-is_marked.ensures.0 ∙ sym (front_is b ∙ go _ _ (whole w) ∙ stop _ _ (fails c.is_marked.ensures (ap not c.if-not-is_marked.true))),
+      c.refuse-then-not-is_marked.ensures.1 b (nothing w.before),
     )
 
 -- `return refuse(Refusal::SheetTooShort, nothing)`
-refuse-requires-3 : tie.Need-refuse-requires-3
+refuse-requires-3 : tie.Need-refuse-requires-then-sheet-lt5
 refuse-requires-3 c κs = search rules
 
 -- `return refuse(Refusal::SheetTooShort, nothing)`
-returns-3 : tie.Need-returns-3
+returns-3 : tie.Need-returns-then-sheet-lt5
 returns-3 c =
     let m = c.before.before in
     let o = (reading m).before in
-    (c.refuse3.ensures.0 ∙ sym (opens m ∙ stop _ _ (too_few (bytes o) 0 5 (omega (arith, c.before.if3.true)))), c.refuse3.ensures.1 (bytes o) (nothing o))
+    (c.refuse-then-sheet-lt5.ensures.0 ∙ sym (opens m ∙ stop _ _ (too_few (bytes o) 0 5 (omega (arith, c.if-sheet-lt5.true)))), c.refuse-then-sheet-lt5.ensures.1 (bytes o) (nothing o))
 
 -- `let variables = sheet[2]`
-shared-slice-read-variables : tie.Need-shared-slice-read-variables
+shared-slice-read-variables : tie.Need-bounds-sheet-2
 shared-slice-read-variables c = search rules
 
 -- `let environment = sheet[3]`
-shared-slice-read-environment : tie.Need-shared-slice-read-environment
+shared-slice-read-environment : tie.Need-bounds-sheet-3
 shared-slice-read-environment c = search rules
 
 -- `let root = sheet[4]`
-shared-slice-read-root : tie.Need-shared-slice-read-root
+shared-slice-read-root : tie.Need-bounds-sheet-4
 shared-slice-read-root c = search rules
 
 -- `if ar_fault(variables, environment, root)`
-ar-fault-requires : tie.Need-ar-fault-requires
+ar-fault-requires : tie.Need-ar_fault-requires
 ar-fault-requires c κs = search rules
 
 -- `return refuse(Refusal::BadArchitecture, nothing)`
-refuse-requires-4 : tie.Need-refuse-requires-4
+refuse-requires-4 : tie.Need-refuse-requires-then-ar_fault
 refuse-requires-4 c κs = search rules
 
 -- `return refuse(Refusal::BadArchitecture, nothing)`
-returns-4 : tie.Need-returns-4
+returns-4 : tie.Need-returns-then-ar_fault
 returns-4 c =
     let d = fields c.before.before in
     let o = opening-at d in (
-      c.refuse4.ensures.0 ∙ sym (opens d.before ∙ go _ _ (long d) ∙ stop _ _ (sym c.before.before.ar-fault.ensures ∙ c.before.if4.true)),
-      c.refuse4.ensures.1 (bytes o) (nothing o),
+      c.refuse-then-ar_fault.ensures.0 ∙ sym (opens d.before ∙ go _ _ (long d) ∙ stop _ _ (sym c.ar_fault.ensures ∙ c.if-ar_fault.true)),
+      c.refuse-then-ar_fault.ensures.1 (bytes o) (nothing o),
     )
 
 -- `read_processes(sheet, opened(variables, environment, root, 5))`
-opened-requires-2 : tie.Need-opened-requires-2
+opened-requires-2 : tie.Need-opened-requires
 opened-requires-2 c κs = sound c
 
 -- what was opened: AR, and no process yet
-first : (c : tie.After-opened2) → let f = c.opened2.result in let b = bytes (opening-at (fields c.before.before)) in
+first : (c : tie.After-opened) → let f = c.opened.result in let b = bytes (opening-at (fields c.before.before)) in
     (f.answer ≡ Reply.Done) × (architecture_of f.architecture ≡ architecture_at b) × (f.end ≡ 5)
-first c = let f = c.opened2.result in front_proper f.answer f.architecture f.end _ c.opened2.ensures.0
+first c = let f = c.opened.result in front_proper f.answer f.architecture f.end _ c.opened.ensures.0
 
 -- `read_processes(sheet, opened(variables, environment, root, 5))`
-read-processes-requires : tie.Need-read-processes-requires
+read-processes-requires : tie.Need-read_processes-front-requires
 read-processes-requires c κs =
     let d = fields c.before.before in
     let f = first c in
-    let none : c.opened2.result.architecture.processes ≡ 0 = omega (arith, count_is c.opened2.result.architecture, ap (λ (a : Architecture). length a.processes) f.1) in
-    (c.opened2.ensures.1 (bytes (opening-at d)) (omega (arith, d.if3.left)), (f.0, none))
+    let none : c.opened.result.architecture.processes ≡ 0 = omega (arith, count_is c.opened.result.architecture, ap (λ (a : Architecture). length a.processes) f.1) in
+    (c.opened.ensures.1 (bytes (opening-at d)) (omega (arith, d.if-sheet-lt5.false)), (f.0, none))
 
 -- ---- the processes are read: what is behind them, by the answer
 abbrev Processes : Type 0
-Processes = tie.After-read-processes
+Processes = tie.After-read_processes-front
 
 module _ (c : Processes) where
   abbrev row : List ℕ
   row = bytes (opening-at (fields c.before.before.before))
 
   abbrev read : FrontRead
-  read = c.read-processes.result
+  read = c.read_processes-front.result
 
   abbrev all : Reading Front
   all = read_processes 4 (architecture_at row) row 5
@@ -167,7 +167,7 @@ module _ (c : Processes) where
   rest f = read_ties 3 f.architecture row f.end
 
   are-read : front_of read ≡ all
-  are-read = let f = first c.before in c.read-processes.ensures.0 ∙ ap₂ (λ (a : Architecture) (i : ℕ). read_processes 4 a row i) f.1 f.2
+  are-read = let f = first c.before in c.read_processes-front.ensures.0 ∙ ap₂ (λ (a : Architecture) (i : ℕ). read_processes 4 a row i) f.1 f.2
 
   front : read_front row ≡ (all then rest)
   front = let d = fields c.before.before.before in opens d.before ∙ go _ _ (long d) ∙ go _ _ (sound c.before.before)
@@ -179,33 +179,33 @@ module _ (c : Processes) where
   untied e = omega (arith, ties_count read.architecture, ap length (processes_end 4 (architecture_at row) row 5 _ (done e)).1)
 
 -- `return front`
-enum_told : tie.Need-enum-told
+enum_told : tie.Need-enum_told-1
 enum_told c = search rules
 
 -- `return front`
-returns-5 : tie.Need-returns-5
+returns-5 : tie.Need-returns-in-Refused
 returns-5 c =
-    let p = c.before.before in
-    let told = c.enum_told.given in
-    let refused = front_refused (all p) (read p).answer (read p).architecture (read p).end (are-read p) told.0.0 told.1 in
-    (are-read p ∙ refused ∙ sym (front p ∙ then_refused (rest p) refused), p.read-processes.ensures.1)
+    let p = c.before in
+    let told = c.in-Refused in
+    let refused = front_refused (all p) (read p).answer (read p).architecture (read p).end (are-read p) told.field-0 told.is in
+    (are-read p ∙ refused ∙ sym (front p ∙ then_refused (rest p) refused), p.read_processes-front.ensures.1)
 
 -- `return front`
-enum-told-2 : tie.Need-enum-told-2
+enum-told-2 : tie.Need-enum_told-in_default
 enum-told-2 c = search rules
 
 -- `read_ties(sheet, front)`
-read-ties-requires : tie.Need-read-ties-requires
-read-ties-requires c κs = let p = c.before.before in let e = c.enum-told2.given.1 in (p.read-processes.ensures.1, (e, untied p e))
+read-ties-requires : tie.Need-read_ties-requires
+read-ties-requires c κs = let p = c.before in let e = c.in_default.is in (p.read_processes-front.ensures.1, (e, untied p e))
 
 -- `read_ties(sheet, front)`
-returns-6 : tie.Need-returns-6
+returns-6 : tie.Need-returns
 returns-6 c =
-    let p = c.before.before.before in
-    (c.read-ties.ensures.0 ∙ sym (front p ∙ then_proper (rest p) (done p c.before.enum-told2.given.1)), c.read-ties.ensures.1)
+    let p = c.before.before in
+    (c.read_ties.ensures.0 ∙ sym (front p ∙ then_proper (rest p) (done p c.in_default.is)), c.read_ties.ensures.1)
 
-pub read-front-spec : {M : Type 1} → statement M
-read-front-spec =
+pub read_front_spec : {M : Type 1} → statement M
+read_front_spec =
     tie.close
     (tie.spec
     opened-requires

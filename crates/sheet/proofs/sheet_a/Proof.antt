@@ -10,5 +10,5 @@ returns : tie.Need-returns
 unfolding reply read_sheet
 returns c = (refl, refl)
 
-pub sheet-a-spec : {M : Type 1} → statement M
-sheet-a-spec = tie.close (tie.spec returns)
+pub sheet_a_spec : {M : Type 1} → statement M
+sheet_a_spec = tie.close (tie.spec returns)

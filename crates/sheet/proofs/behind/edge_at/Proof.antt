@@ -4,47 +4,47 @@ use Rattle.sheet.proofs.behind.edge_at.Statement.{statement}
 use Rattle.sheet.proofs.behind.edge_at.Tie as tie
 
 -- `from: AutomatonState(sheet[at + 2])`
-add-t4 : tie.Need-overflow-add-t4
+add-t4 : tie.Need-overflow_add-result
 add-t4 c = search rules
 
 -- `from: AutomatonState(sheet[at + 2])`
-shared-slice-read-t6 : tie.Need-shared-slice-read-t6
+shared-slice-read-t6 : tie.Need-bounds-sheet-at
 shared-slice-read-t6 c = search rules
 
 -- `to: AutomatonState(sheet[at + 3])`
-add-t8 : tie.Need-overflow-add-t8
+add-t8 : tie.Need-overflow_add-result-2
 add-t8 c = search rules
 
 -- `to: AutomatonState(sheet[at + 3])`
-shared-slice-read-t10 : tie.Need-shared-slice-read-t10
+shared-slice-read-t10 : tie.Need-bounds-sheet-at-2
 shared-slice-read-t10 c = search rules
 
 -- `on: sheet[at + 4]`
-add-t12 : tie.Need-overflow-add-t12
+add-t12 : tie.Need-overflow_add-result-3
 add-t12 c = search rules
 
 -- `on: sheet[at + 4]`
-shared-slice-read-t14 : tie.Need-shared-slice-read-t14
+shared-slice-read-t14 : tie.Need-bounds-sheet-at-3
 shared-slice-read-t14 c = search rules
 
 -- `off: sheet[at + 5]`
-add-t15 : tie.Need-overflow-add-t15
+add-t15 : tie.Need-overflow_add-result-4
 add-t15 c = search rules
 
 -- `off: sheet[at + 5]`
-shared-slice-read-t17 : tie.Need-shared-slice-read-t17
+shared-slice-read-t17 : tie.Need-bounds-sheet-at-4
 shared-slice-read-t17 c = search rules
 
 -- `unless: is_marked(sheet, at, &EX)`
-is-marked-requires : tie.Need-is-marked-requires
+is-marked-requires : tie.Need-is_marked-requires
 is-marked-requires c κs = search rules
 
 -- `Edge`
 returns : tie.Need-returns
-returns c = rw c.is-marked.ensures
+returns c = rw c.is_marked.ensures
 
-pub edge-at-spec : {M : Type 1} → statement M
-edge-at-spec =
+pub edge_at_spec : {M : Type 1} → statement M
+edge_at_spec =
     tie.close
     (tie.spec
     add-t4

@@ -8,25 +8,25 @@ use Rattle.sheet.proofs.behind.is_edge.Statement.{statement}
 use Rattle.sheet.proofs.behind.is_edge.Tie as tie
 
 -- `if is_marked(sheet, at, &ED)`
-is-marked-requires : tie.Need-is-marked-requires
+is-marked-requires : tie.Need-is_marked-requires
 is-marked-requires c κs = search rules
 
 -- `return true`
-returns : tie.Need-returns
+returns : tie.Need-returns-then-is_marked
 unfolding edge_marked
-returns c = let s = c.before.before.before.before.args in told (λ (t : Bool). t || marked s.sheet.now s.at EX) c.before.is-marked.ensures c.if1.true
+returns c = let s = c.args in told (λ (t : Bool). t || marked s.sheet.now s.at EX) c.is_marked.ensures c.if-is_marked.true
 
 -- `is_marked(sheet, at, &EX)`
-is-marked-requires-2 : tie.Need-is-marked-requires-2
+is-marked-requires-2 : tie.Need-is_marked-requires-2
 is-marked-requires-2 c κs = search rules
 
 -- `is_marked(sheet, at, &EX)`
-returns-2 : tie.Need-returns-2
+returns-2 : tie.Need-returns
 unfolding edge_marked
 returns-2 c =
     let d = c.before.before in
-    let s = d.before.before.before.before.args in
-    c.is-marked2.ensures ∙ told (λ (t : Bool). t || marked s.sheet.now s.at EX) d.before.is-marked.ensures d.if1.false
+    let s = d.args in
+    c.is_marked-2.ensures ∙ told (λ (t : Bool). t || marked s.sheet.now s.at EX) d.is_marked.ensures d.if-is_marked.false
 
-pub is-edge-spec : {M : Type 1} → statement M
-is-edge-spec = tie.close (tie.spec is-marked-requires returns is-marked-requires-2 returns-2)
+pub is_edge_spec : {M : Type 1} → statement M
+is_edge_spec = tie.close (tie.spec is-marked-requires returns is-marked-requires-2 returns-2)

@@ -9,5 +9,5 @@ returns : tie.Need-returns
 unfolding automaton_as
 returns c = record { is = refl; arrays = c.requires }
 
-pub refuse-spec : {M : Type 1} → statement M
-refuse-spec = tie.close (tie.spec returns)
+pub refuse_spec : {M : Type 1} → statement M
+refuse_spec = tie.close (tie.spec returns)

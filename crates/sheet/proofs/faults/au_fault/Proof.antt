@@ -6,30 +6,30 @@ use Rattle.sheet.proofs.faults.au_fault.Statement.{statement}
 use Rattle.sheet.proofs.faults.au_fault.Tie as tie
 
 -- `return true`
-returns : tie.Need-returns
+returns : tie.Need-returns-then-states-eq0
 unfolding au_fault
-returns c = simp (eq-eqb _ _ c.if1.true)
+returns c = simp (eq-eqb _ _ c.if-states-eq0.true)
 
 -- `return true`
-returns-2 : tie.Need-returns-2
+returns-2 : tie.Need-returns-then-states-gt16
 unfolding au_fault
-returns-2 c = simp (ne_eqb _ _ c.before.if1.false, lt-ltb _ _ c.if2.true)
+returns-2 c = simp (ne_eqb _ _ c.if-states-eq0.false, lt-ltb _ _ c.if-states-gt16.true)
 
 -- `return true`
-returns-3 : tie.Need-returns-3
+returns-3 : tie.Need-returns-then-states-initial
 unfolding au_fault
-returns-3 c = let d = c.before.before in simp (ne_eqb _ _ d.before.if1.false, le-ltb _ _ d.if2.false, le-leb _ _ c.if3.true)
+returns-3 c = let d = c.before.before in simp (ne_eqb _ _ d.if-states-eq0.false, le-ltb _ _ d.if-states-gt16.false, le-leb _ _ c.if-states-initial.true)
 
 -- `is_beyond(rejecting, states)`
-is-beyond-requires : tie.Need-is-beyond-requires
+is-beyond-requires : tie.Need-is_beyond-requires
 is-beyond-requires c κs = search rules
 
 -- `is_beyond(rejecting, states)`
-returns-4 : tie.Need-returns-4
+returns-4 : tie.Need-returns
 unfolding au_fault
 returns-4 c =
     let d = c.before.before.before in
-    simp (ne_eqb _ _ d.before.if1.false, le-ltb _ _ d.if2.false, lt-leb _ _ c.before.if3.false) c.is_beyond.ensures
+    simp (ne_eqb _ _ d.if-states-eq0.false, le-ltb _ _ d.if-states-gt16.false, lt-leb _ _ c.if-states-initial.false) c.is_beyond.ensures
 
-pub au-fault-spec : {M : Type 1} → statement M
-au-fault-spec = tie.close (tie.spec returns returns-2 returns-3 is-beyond-requires returns-4)
+pub au_fault_spec : {M : Type 1} → statement M
+au_fault_spec = tie.close (tie.spec returns returns-2 returns-3 is-beyond-requires returns-4)

@@ -5,12 +5,12 @@ use Rattle.sheet.proofs.faults.is_beyond.Statement.{statement}
 use Rattle.sheet.proofs.faults.is_beyond.Tie as tie
 
 -- `(mask as u32) >> n != 0`
-shr-result : tie.Need-overflow-shr-result
+shr-result : tie.Need-overflow_shr-result
 shr-result c = search rules
 
 -- `(mask as u32) >> n != 0`
 returns : tie.Need-returns
 returns c = shifted_out c.args.mask c.args.n
 
-pub is-beyond-spec : {M : Type 1} → statement M
-is-beyond-spec = tie.close (tie.spec shr-result returns)
+pub is_beyond_spec : {M : Type 1} → statement M
+is_beyond_spec = tie.close (tie.spec shr-result returns)

@@ -9,16 +9,16 @@ use Rattle.sheet.proofs.faults.lowest.Statement.{statement}
 use Rattle.sheet.proofs.faults.lowest.Tie as tie
 
 -- `(1 << n) - 1`
-shl-result : tie.Need-overflow-shl-result
+shl-result : tie.Need-overflow_shl-result
 shl-result c = search rules
 
 -- `(1 << n) - 1`
-sub-result : tie.Need-overflow-sub-result
+sub-result : tie.Need-overflow_sub-result
 sub-result c = omega (arith, one_shifted 8 c.args.n (omega arith), pow_pos c.args.n)
 
 -- `(1 << n) - 1`
 returns : tie.Need-returns
 returns c = ap (λ (x : ℕ). x - 1) (one_shifted 8 c.args.n (omega arith))
 
-pub lowest-spec : {M : Type 1} → statement M
-lowest-spec = tie.close (tie.spec shl-result sub-result returns)
+pub lowest_spec : {M : Type 1} → statement M
+lowest_spec = tie.close (tie.spec shl-result sub-result returns)

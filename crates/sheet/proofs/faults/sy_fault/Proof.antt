@@ -20,35 +20,35 @@ unfolding tie_fault
 tests a x y = rw (processes_length a.processes (process_in a))
 
 -- `return true`
-returns : tie.Need-returns
-returns c = let a = c.before.args in rw (tests a.architecture a.left a.right) (simp (le-leb _ _ c.if1.true))
+returns : tie.Need-returns-then-n-i
+returns c = let a = c.args in rw (tests a.architecture a.left a.right) (simp (le-leb _ _ c.if-n-i.true))
 
 -- `return true`
-returns-2 : tie.Need-returns-2
-returns-2 c = let a = c.before.before.args in rw (tests a.architecture a.left a.right) (simp (lt-leb _ _ c.before.if1.false, le-leb _ _ c.if2.true))
+returns-2 : tie.Need-returns-then-n-j
+returns-2 c = let a = c.args in rw (tests a.architecture a.left a.right) (simp (lt-leb _ _ c.if-n-i.false, le-leb _ _ c.if-n-j.true))
 
 -- `return true`
-returns-3 : tie.Need-returns-3
+returns-3 : tie.Need-returns-then-i-j
 returns-3 c =
-    let a = c.before.before.before.args in
-    rw (tests a.architecture a.left a.right) (simp (lt-leb _ _ c.before.before.if1.false, lt-leb _ _ c.before.if2.false, eq-eqb _ _ c.if3.true))
+    let a = c.args in
+    rw (tests a.architecture a.left a.right) (simp (lt-leb _ _ c.if-n-i.false, lt-leb _ _ c.if-n-j.false, eq-eqb _ _ c.if-i-j.true))
 
 -- `is_unlike(architecture, i, j)`
-is-unlike-requires : tie.Need-is-unlike-requires
+is-unlike-requires : tie.Need-is_unlike-requires
 is-unlike-requires c κs =
     let s = c.before.before.before in
     let few = s.requires.few_processes in
-    (s.requires, (omega (arith, few, c.before.before.if1.false), omega (arith, few, c.before.if2.false)))
+    (s.requires, (omega (arith, few, c.if-n-i.false), omega (arith, few, c.if-n-j.false)))
 
 -- `is_unlike(architecture, i, j)`
-returns-4 : tie.Need-returns-4
+returns-4 : tie.Need-returns
 returns-4 c =
     let d = c.before in
-    let a = d.before.before.before.args in
+    let a = d.args in
     let m = a.architecture in
     let there : (k : ℕ) → k < m.processes → process_no (processes_in m) k ≡ process_in m k = λ k h. processes_at (process_in m) m.processes k nobody h in
-    rw (tests m a.left a.right, there a.left d.before.before.if1.false, there a.right d.before.if2.false)
-    (simp (lt-leb _ _ d.before.before.if1.false, lt-leb _ _ d.before.if2.false, ne_eqb _ _ d.if3.false) c.is-unlike.ensures)
+    rw (tests m a.left a.right, there a.left d.if-n-i.false, there a.right d.if-n-j.false)
+    (simp (lt-leb _ _ d.if-n-i.false, lt-leb _ _ d.if-n-j.false, ne_eqb _ _ d.if-i-j.false) c.is_unlike.ensures)
 
-pub sy-fault-spec : {M : Type 1} → statement M
-sy-fault-spec = tie.close (tie.spec returns returns-2 returns-3 is-unlike-requires returns-4)
+pub sy_fault_spec : {M : Type 1} → statement M
+sy_fault_spec = tie.close (tie.spec returns returns-2 returns-3 is-unlike-requires returns-4)

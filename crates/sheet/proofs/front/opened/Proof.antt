@@ -15,22 +15,22 @@ abbrev ar : tie.Start → Architecture
 ar s = record { variables = s.args.variables; environment = s.args.environment; root = s.args.root; processes = []; ties = [] }
 
 -- `let architecture = Architecture::opened(variables, environment, root)`
-opened-requires : tie.Need-opened-requires
+opened-requires : tie.Need-opened-architecture-requires
 opened-requires c κs = search rules
 
 -- `total: power(environment)`
 power-requires : tie.Need-power-requires
-power-requires c κs = (opening_proper (ar c.before) refl refl c.before.requires).few_environment
+power-requires c κs = (opening_proper (ar c.before) refl refl c.requires).few_environment
 
 -- `FrontRead`
 returns : tie.Need-returns
 unfolding front_as
 returns c =
     let start = c.before.before in
-    let architecture = c.before.opened.ensures in (
+    let architecture = c.opened-architecture.ensures in (
       ap (λ (a : Architecture). proper record { architecture = a; end = start.args.end }) architecture.0,
       λ b inside. known_opened b _ (ar start) refl refl start.requires architecture.0 architecture.1.0 inside refl c.power.ensures,
     )
 
-pub opened-spec : {M : Type 1} → statement M
-opened-spec = tie.close (tie.spec opened-requires power-requires returns)
+pub opened_spec : {M : Type 1} → statement M
+opened_spec = tie.close (tie.spec opened-requires power-requires returns)

@@ -6,12 +6,12 @@ use Rattle.sheet.proofs.front.power.Statement.{statement}
 use Rattle.sheet.proofs.front.power.Tie as tie
 
 -- `1 << n`
-shl-result : tie.Need-overflow-shl-result
+shl-result : tie.Need-overflow_shl-result
 shl-result c = search rules
 
 -- `1 << n`
 returns : tie.Need-returns
 returns c = one_shifted 16 c.args.n (omega arith)
 
-pub power-spec : {M : Type 1} → statement M
-power-spec = tie.close (tie.spec shl-result returns)
+pub power_spec : {M : Type 1} → statement M
+power_spec = tie.close (tie.spec shl-result returns)

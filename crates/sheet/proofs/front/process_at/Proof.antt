@@ -6,43 +6,43 @@ use Rattle.sheet.proofs.front.process_at.Statement.{statement}
 use Rattle.sheet.proofs.front.process_at.Tie as tie
 
 -- `inputs: sheet[at + 2]`
-add-t4 : tie.Need-overflow-add-t4
+add-t4 : tie.Need-overflow_add-result
 add-t4 c = search rules
 
 -- `inputs: sheet[at + 2]`
-shared-slice-read-t6 : tie.Need-shared-slice-read-t6
+shared-slice-read-t6 : tie.Need-bounds-sheet-at
 shared-slice-read-t6 c = let s = c.before.before in omega (arith, s.requires, sizes s.args.sheet.now s.args.at)
 
 -- `outputs: sheet[at + 3]`
-add-t7 : tie.Need-overflow-add-t7
+add-t7 : tie.Need-overflow_add-result-2
 add-t7 c = search rules
 
 -- `outputs: sheet[at + 3]`
-shared-slice-read-t9 : tie.Need-shared-slice-read-t9
+shared-slice-read-t9 : tie.Need-bounds-sheet-at-2
 shared-slice-read-t9 c = let s = c.before.before.before in omega (arith, s.requires, sizes s.args.sheet.now s.args.at)
 
 -- `bound: sheet[at + 4]`
-add-t10 : tie.Need-overflow-add-t10
+add-t10 : tie.Need-overflow_add-result-3
 add-t10 c = search rules
 
 -- `bound: sheet[at + 4]`
-shared-slice-read-t12 : tie.Need-shared-slice-read-t12
+shared-slice-read-t12 : tie.Need-bounds-sheet-at-3
 shared-slice-read-t12 c = let s = c.before.before.before.before in omega (arith, s.requires, sizes s.args.sheet.now s.args.at)
 
 -- `prompts: prompts_at(sheet, at)`
-prompts-at-requires : tie.Need-prompts-at-requires
+prompts-at-requires : tie.Need-prompts_at-requires
 prompts-at-requires c κs = search rules
 
 -- `prompted: is_marked(sheet, at, &PM)`
-is-marked-requires : tie.Need-is-marked-requires
+is-marked-requires : tie.Need-is_marked-requires
 is-marked-requires c κs = search rules
 
 -- `Process`
 returns : tie.Need-returns
-returns c = rw (c.before.before.prompts-at.ensures, c.is-marked.ensures)
+returns c = rw (c.prompts_at.ensures, c.is_marked.ensures)
 
-pub process-at-spec : {M : Type 1} → statement M
-process-at-spec =
+pub process_at_spec : {M : Type 1} → statement M
+process_at_spec =
     tie.close
     (tie.spec
     add-t4

@@ -18,26 +18,26 @@ unfolding process_size if
 inside b i l e = let six : process_size b i ≡ 6 = ap (λ (t : Bool). if {A = ℕ} t 6 5) e in omega arith
 
 -- `if is_marked(sheet, at, &PM)`
-is-marked-requires : tie.Need-is-marked-requires
-is-marked-requires c κs = omega (arith, c.before.before.requires)
+is-marked-requires : tie.Need-is_marked-requires
+is-marked-requires c κs = omega (arith, c.requires)
 
 -- `return sheet[at + 5]`
-add-result : tie.Need-overflow-add-result
+add-result : tie.Need-overflow_add-result
 add-result c = search rules
 
 -- `return sheet[at + 5]`
-shared-slice-read-result : tie.Need-shared-slice-read-result
-shared-slice-read-result c = inside _ _ c.before.before.before.before.before.requires (sym c.before.before.is-marked.ensures ∙ c.before.if1.true)
+shared-slice-read-result : tie.Need-bounds-sheet-at
+shared-slice-read-result c = inside _ _ c.requires (sym c.is_marked.ensures ∙ c.if-is_marked.true)
 
 -- `return sheet[at + 5]`
-returns : tie.Need-returns
+returns : tie.Need-returns-then-is_marked
 unfolding prompts_at if
-returns c = let s = c.before.before.before.before.before.args in told (λ (t : Bool). if t (byte s.sheet.now (s.at + 5)) 0) c.before.before.is-marked.ensures c.before.if1.true
+returns c = let s = c.args in told (λ (t : Bool). if t (byte s.sheet.now (s.at + 5)) 0) c.is_marked.ensures c.if-is_marked.true
 
 -- `0`
-returns-2 : tie.Need-returns-2
+returns-2 : tie.Need-returns
 unfolding prompts_at if
-returns-2 c = let s = c.before.before.before.before.args in told (λ (t : Bool). if t (byte s.sheet.now (s.at + 5)) 0) c.before.is-marked.ensures c.if1.false
+returns-2 c = let s = c.args in told (λ (t : Bool). if t (byte s.sheet.now (s.at + 5)) 0) c.is_marked.ensures c.if-is_marked.false
 
-pub prompts-at-spec : {M : Type 1} → statement M
-prompts-at-spec = tie.close (tie.spec is-marked-requires add-result shared-slice-read-result returns returns-2)
+pub prompts_at_spec : {M : Type 1} → statement M
+prompts_at_spec = tie.close (tie.spec is-marked-requires add-result shared-slice-read-result returns returns-2)

@@ -9,5 +9,5 @@ returns : tie.Need-returns
 unfolding front_as
 returns c = (refl, λ b z. record { arrays = z.arrays; proper = z.proper; inside = z.inside; owned_is = z.owned_is; total_is = z.total_is })
 
-pub refuse-spec : {M : Type 1} → statement M
-refuse-spec = tie.close (tie.spec returns)
+pub refuse_spec : {M : Type 1} → statement M
+refuse_spec = tie.close (tie.spec returns)

@@ -1,5 +1,5 @@
 -- `sheet::tied::is_tie` meets its contract: without the mark the test fails, and with it the count of processes decides.
-use mathlib.Core.Path.{◌≡◌, refl}
+use mathlib.Core.Path.{◌≡◌, refl, ap}
 use mathlib.Core.Bool.{Bool, ◌&&◌, not}
 use mathlib.Core.List.{List}
 use Prim.Native.Nat.{ℕ}
@@ -20,18 +20,18 @@ unfolding tie_marked
 tested a b i e = rw (e, count_is a) refl
 
 -- `if !is_marked(sheet, at, &SY)`
-is-marked-requires : tie.Need-is-marked-requires
+is-marked-requires : tie.Need-is_marked-requires
 is-marked-requires c κs = search rules
 
 -- `return false`
-returns : tie.Need-returns
-returns c = let s = c.before.before.before.before.args in tested s.architecture s.sheet.now s.at (not-true _ (fails c.before.is-marked.ensures c.if1.true))
+returns : tie.Need-returns-then-not-is_marked
+returns c = let s = c.args in tested s.architecture s.sheet.now s.at (not-true _ (fails c.is_marked.ensures (ap not c.if-not-is_marked.true)))
 
 -- `architecture.processes != 0`
-returns-2 : tie.Need-returns-2
+returns-2 : tie.Need-returns
 returns-2 c =
-    let s = c.before.before.before.before.before.args in
-    tested s.architecture s.sheet.now s.at (not-false _ (passes c.before.before.is-marked.ensures c.before.if1.false))
+    let s = c.args in
+    tested s.architecture s.sheet.now s.at (not-false _ (passes c.is_marked.ensures (ap not c.if-not-is_marked.false)))
 
-pub is-tie-spec : {M : Type 1} → statement M
-is-tie-spec = tie.close (tie.spec is-marked-requires returns returns-2)
+pub is_tie_spec : {M : Type 1} → statement M
+is_tie_spec = tie.close (tie.spec is-marked-requires returns returns-2)
