@@ -7,22 +7,22 @@ use Rattle.template.proofs.digit.Statement.{statement}
 use Rattle.template.proofs.digit.Tie as tie
 
 -- `return b'0' + d`
-add-result : tie.Need-overflow-add-result
+add-result : tie.Need-overflow_add-result
 add-result c = search rules
 
 -- `return b'0' + d`
-returns : tie.Need-returns
+returns : tie.Need-returns-then-d-lt10
 unfolding spec.digit if
-returns c = rw (lt-ltb _ 10 c.if1.true)
+returns c = rw (lt-ltb _ 10 c.if-d-lt10.true)
 
 -- `b'A' + (d - 10)`
-add-result-2 : tie.Need-overflow-add-result-2
+add-result-2 : tie.Need-overflow_add-result-2
 add-result-2 c = search rules
 
 -- `b'A' + (d - 10)`
-returns-2 : tie.Need-returns-2
+returns-2 : tie.Need-returns
 unfolding spec.digit if
-returns-2 c = rw (le-ltb _ 10 c.if1.false)
+returns-2 c = rw (le-ltb _ 10 c.if-d-lt10.false)
 
-pub digit-spec : {M : Type 1} → statement M
-digit-spec = tie.close (tie.spec add-result returns add-result-2 returns-2)
+pub digit_spec : {M : Type 1} → statement M
+digit_spec = tie.close (tie.spec add-result returns add-result-2 returns-2)

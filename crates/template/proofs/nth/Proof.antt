@@ -6,20 +6,20 @@ use Rattle.template.proofs.nth.Statement.{statement}
 use Rattle.template.proofs.nth.Tie as tie
 
 -- `return numbers[k]`
-mul-result : tie.Need-overflow-mul-result
+mul-result : tie.Need-offset_bounds-numbers-k
 mul-result c = search rules
 
 -- `return numbers[k]`
-shared-slice-read-result : tie.Need-shared-slice-read-result
+shared-slice-read-result : tie.Need-bounds-numbers-k
 shared-slice-read-result c = search rules
 
 -- `return numbers[k]`
-returns : tie.Need-returns
+returns : tie.Need-returns-then-k-numbers
 returns c = search rules
 
 -- `0`
-returns-2 : tie.Need-returns-2
-returns-2 c = sym (get_or-eq_default c.before.args.numbers.now 0 c.if1.false)
+returns-2 : tie.Need-returns
+returns-2 c = sym (get_or-eq_default c.args.numbers.now 0 c.if-k-numbers.false)
 
-pub nth-spec : {M : Type 1} → statement M
-nth-spec = tie.close (tie.spec mul-result shared-slice-read-result returns returns-2)
+pub nth_spec : {M : Type 1} → statement M
+nth_spec = tie.close (tie.spec mul-result shared-slice-read-result returns returns-2)

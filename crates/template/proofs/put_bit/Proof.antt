@@ -8,43 +8,42 @@ use Rattle.template.proofs.put_bit.Statement.{statement}
 use Rattle.template.proofs.put_bit.Tie as tie
 
 -- `return put_literal(text, at, is_first, sign, true, i)`
-put-literal-requires : tie.Need-put-literal-requires
+put-literal-requires : tie.Need-put_literal-requires
 unfolding bit_text if
-put-literal-requires c κs = rw (eq-eqb _ _ c.before.if1.true) at c.before.before.before.before.requires
+put-literal-requires c κs = rw (eq-eqb _ _ c.if-on-eq1.true) at c.requires
 
 -- `return put_literal(text, at, is_first, sign, true, i)`
-same_length : tie.Need-same-length
+same_length : tie.Need-shape_of-text-then-on-eq1
 same_length c = search rules
 
 -- `return put_literal(text, at, is_first, sign, true, i)`
-returns : tie.Need-returns
+returns : tie.Need-returns-then-on-eq1
 unfolding bit_text if
-returns c = rw (eq-eqb _ _ c.before.before.before.before.if1.true) c.before.before.put-literal.ensures
+returns c = rw (eq-eqb _ _ c.if-on-eq1.true) c.put_literal.ensures
 
 -- `return put_literal(text, at, is_first, sign, false, i)`
-put-literal-requires-2 : tie.Need-put-literal-requires-2
+put-literal-requires-2 : tie.Need-put_literal-requires-then-off-eq1
 unfolding bit_text if
 put-literal-requires-2 c κs =
-    rw (ne_eqb _ _ c.before.before.if1.false, eq-eqb _ _ c.before.if2.true) at c.before.before.before.before.before.requires
+    rw (ne_eqb _ _ c.if-on-eq1.false, eq-eqb _ _ c.if-off-eq1.true) at c.requires
 
 -- `return put_literal(text, at, is_first, sign, false, i)`
-same-length-2 : tie.Need-same-length-2
+same-length-2 : tie.Need-shape_of-text-then-off-eq1
 same-length-2 c = search rules
 
 -- `return put_literal(text, at, is_first, sign, false, i)`
-returns-2 : tie.Need-returns-2
+returns-2 : tie.Need-returns-then-off-eq1
 unfolding bit_text if
 returns-2 c =
-    let arm = c.before.before.before.before in
-    rw (ne_eqb _ _ arm.before.if1.false, eq-eqb _ _ arm.if2.true) c.before.before.put-literal2.ensures
+    rw (ne_eqb _ _ c.if-on-eq1.false, eq-eqb _ _ c.if-off-eq1.true) c.put_literal-then-off-eq1.ensures
 
 -- `at`
-returns-3 : tie.Need-returns-3
+returns-3 : tie.Need-returns
 unfolding bit_text if
-returns-3 c = rw (ne_eqb _ _ c.before.if1.false, ne_eqb _ _ c.if2.false) (append_none _ _)
+returns-3 c = rw (ne_eqb _ _ c.if-on-eq1.false, ne_eqb _ _ c.if-off-eq1.false) (append_none _ _)
 
-pub put-bit-spec : {M : Type 1} → statement M
-put-bit-spec =
+pub put_bit_spec : {M : Type 1} → statement M
+put_bit_spec =
     tie.close
     (tie.spec
     put-literal-requires

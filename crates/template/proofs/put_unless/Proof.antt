@@ -6,23 +6,23 @@ use Rattle.template.proofs.put_unless.Statement.{statement}
 use Rattle.template.proofs.put_unless.Tie as tie
 
 -- `return at`
-returns : tie.Need-returns
+returns : tie.Need-returns-then-test
 unfolding if
-returns c = rw c.if1.true (append_none _ _)
+returns c = rw c.if-test.true (append_none _ _)
 
 -- `put_bytes(text, at, bytes)`
-put-bytes-requires : tie.Need-put-bytes-requires
+put-bytes-requires : tie.Need-put_bytes-requires
 unfolding if
-put-bytes-requires c κs = rw c.before.if1.false at c.before.before.before.before.requires
+put-bytes-requires c κs = rw c.if-test.false at c.requires
 
 -- `put_bytes(text, at, bytes)`
-same_length : tie.Need-same-length
+same_length : tie.Need-shape_of-text
 same_length c = search rules
 
 -- `put_bytes(text, at, bytes)`
-returns-2 : tie.Need-returns-2
+returns-2 : tie.Need-returns
 unfolding if
-returns-2 c = rw c.before.before.before.before.if1.false c.before.before.put-bytes.ensures
+returns-2 c = rw c.if-test.false c.put_bytes.ensures
 
-pub put-unless-spec : {M : Type 1} → statement M
-put-unless-spec = tie.close (tie.spec returns put-bytes-requires same_length returns-2)
+pub put_unless_spec : {M : Type 1} → statement M
+put_unless_spec = tie.close (tie.spec returns put-bytes-requires same_length returns-2)
