@@ -15,19 +15,19 @@ use Rattle.ties.proofs.entry_fault.Statement.{statement}
 use Rattle.ties.proofs.entry_fault.Tie as tie
 
 -- `let n = choice::fill_kinds(&mut kinds, a)`
-slice-aggregate-fill-kinds : tie.Need-slice-aggregate-fill-kinds
+slice-aggregate-fill-kinds : tie.Need-slice_bounds-fill_kinds-end
 slice-aggregate-fill-kinds c = search rules
 
 -- `let n = choice::fill_kinds(&mut kinds, a)`
-fill-kinds-requires : tie.Need-fill-kinds-requires
+fill-kinds-requires : tie.Need-fill_kinds-n-requires
 fill-kinds-requires c κs = search rules
 
 -- `if choice::is_misfit(&kinds, n, tables)`
-slice-aggregate-is-misfit : tie.Need-slice-aggregate-is-misfit
+slice-aggregate-is-misfit : tie.Need-slice_bounds-is_misfit-end
 slice-aggregate-is-misfit c = search rules
 
 -- `if choice::is_misfit(&kinds, n, tables)`
-is-misfit-requires : tie.Need-is-misfit-requires
+is-misfit-requires : tie.Need-is_misfit-requires
 is-misfit-requires c κs = search rules
 
 -- the first test decides, or leaves it to the second
@@ -41,35 +41,35 @@ module _ (a : Architecture) (c : List ℕ) where
   fault-two e = ap not (and_on (keeps_ties a c) (not-false (fits (entries a) c) e))
 
 -- the words are those of the sheet's entries
-misfit : (c : tie.After-is-misfit) → let b = c.before.before.before.before.before.before in
-    c.is-misfit.result ≡ not (fits (entries (architecture_of b.args.a)) b.args.tables.now)
+misfit : (c : tie.After-is_misfit) → let b = c.before.before.before.before.before.before in
+    c.is_misfit.result ≡ not (fits (entries (architecture_of b.args.a)) b.args.tables.now)
 misfit c =
     let filled = c.before.before.before.before in
-    c.is-misfit.ensures ∙ ap (λ (es : List Entry). not (fits es filled.before.before.args.tables.now)) filled.fill-kinds.ensures.1
+    c.is_misfit.ensures ∙ ap (λ (es : List Entry). not (fits es filled.args.tables.now)) filled.fill_kinds-n.ensures.1
 
 -- `return true`
-returns : tie.Need-returns
-returns c = sym (fault-one _ _ (sym (misfit c.before) ∙ c.if1.true))
+returns : tie.Need-returns-then-is_misfit
+returns c = sym (fault-one _ _ (sym (misfit c.before) ∙ c.if-is_misfit.true))
 
 -- `!keeps_ties(&kinds, tables, a)`
-slice-aggregate-keeps-ties : tie.Need-slice-aggregate-keeps-ties
+slice-aggregate-keeps-ties : tie.Need-slice_bounds-keeps_ties-end
 slice-aggregate-keeps-ties c = search rules
 
 -- `!keeps_ties(&kinds, tables, a)`
-keeps-ties-requires : tie.Need-keeps-ties-requires
+keeps-ties-requires : tie.Need-keeps_ties-requires
 keeps-ties-requires c κs =
     let filled = c.before.before.before.before.before.before.before in
-    let kinds = filled.fill-kinds in
-    (filled.before.before.requires, ((omega arith, omega arith), rw kinds.ensures.0.0 at kinds.ensures.1))
+    let kinds = filled.fill_kinds-n in
+    (filled.requires, ((omega arith, omega arith), rw kinds.ensures.0.0 at kinds.ensures.1))
 
 -- `!keeps_ties(&kinds, tables, a)`
-returns-2 : tie.Need-returns-2
+returns-2 : tie.Need-returns
 returns-2 c =
     let fitting = c.before.before.before in
-    ap not c.keeps-ties.ensures ∙ sym (fault-two _ _ (sym (misfit fitting.before) ∙ fitting.if1.false))
+    ap not c.keeps_ties.ensures ∙ sym (fault-two _ _ (sym (misfit fitting.before) ∙ fitting.if-is_misfit.false))
 
-pub entry-fault-spec : {M : Type 1} → statement M
-entry-fault-spec =
+pub entry_fault_spec : {M : Type 1} → statement M
+entry_fault_spec =
     tie.close
     (tie.spec
     slice-aggregate-fill-kinds

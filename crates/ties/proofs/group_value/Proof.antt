@@ -7,11 +7,11 @@ use Rattle.ties.proofs.group_value.Statement.{statement}
 use Rattle.ties.proofs.group_value.Tie as tie
 
 -- `let packed = packed_value(leader, v)`
-packed-value-requires : tie.Need-packed-value-requires
+packed-value-requires : tie.Need-packed_value-packed-requires
 packed-value-requires c κs = search rules
 
 -- `return unpack(mask_of(kind), packed)`
-mask-of-requires : tie.Need-mask-of-requires
+mask-of-requires : tie.Need-mask_of-requires
 mask-of-requires c κs = search rules
 
 -- `return unpack(mask_of(kind), packed)`
@@ -19,20 +19,26 @@ unpack-requires : tie.Need-unpack-requires
 unpack-requires c κs = search rules
 
 -- `return unpack(mask_of(kind), packed)`
-returns : tie.Need-returns
+returns : tie.Need-returns-then-kind-eq0
 returns c =
     let b = c.before.before in
-    c.unpack.ensures ∙ rw (c.before.mask-of.ensures, b.before.packed-value.ensures) (sym (unpacked_output _ b.if1.true _))
+    c.unpack.ensures ∙ rw (c.mask_of.ensures, b.packed_value-packed.ensures) (sym (unpacked_output _ b.if-kind-eq0.true _))
 
 -- `packed as u8`
-cast-result : tie.Need-overflow-cast-result
-cast-result c = let a = c.before.before.args in omega (arith, c.before.packed-value.ensures, packed_byte a.leader a.v (omega arith))
+cast-result : tie.Need-overflow_cast-result
+cast-result c = let a = c.args in omega (arith, c.packed_value-packed.ensures, packed_byte a.leader a.v (omega arith))
 
 -- `packed as u8`
-returns-2 : tie.Need-returns-2
-returns-2 c = c.before.packed-value.ensures ∙ sym (unpacked_next _ c.if1.false _)
+returns-2 : tie.Need-returns
+returns-2 c = c.packed_value-packed.ensures ∙ sym (unpacked_next _ c.if-kind-eq0.false _)
 
-pub group-value-spec : {M : Type 1} → statement M
-group-value-spec =
+pub group_value_spec : {M : Type 1} → statement M
+group_value_spec =
     tie.close
-    (tie.spec packed-value-requires mask-of-requires unpack-requires returns cast-result returns-2)
+    (tie.spec
+    packed-value-requires
+    mask-of-requires
+    unpack-requires
+    returns
+    cast-result
+    returns-2)

@@ -6,14 +6,14 @@ use Rattle.ties.proofs.instead.Statement.{statement}
 use Rattle.ties.proofs.instead.Tie as tie
 
 -- `new`
-returns : tie.Need-returns
+returns : tie.Need-returns-then-x-old
 unfolding lead.instead if
-returns c = simp (eq-eqb _ _ c.if1.true)
+returns c = simp (eq-eqb _ _ c.if-x-old.true)
 
 -- `x`
-returns-2 : tie.Need-returns-2
+returns-2 : tie.Need-returns-else-x-old
 unfolding lead.instead if
-returns-2 c = simp (ne_eqb _ _ c.if1.false)
+returns-2 c = simp (ne_eqb _ _ c.if-x-old.false)
 
-pub instead-spec : {M : Type 1} → statement M
-instead-spec = tie.close (tie.spec returns returns-2)
+pub instead_spec : {M : Type 1} → statement M
+instead_spec = tie.close (tie.spec returns returns-2)

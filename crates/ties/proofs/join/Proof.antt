@@ -10,34 +10,34 @@ use Rattle.ties.proofs.Joining.{Joined, joined_none, joined_more, joined_all}
 use Rattle.ties.proofs.join.Statement.{statement}
 use Rattle.ties.proofs.join.Tie as tie
 
-abbrev invariant-loop : tie.invariant-loop
+abbrev invariant-loop : tie.invariant-loop-i
 invariant-loop left right a b low high new₀ i₀ new i = Joined (lead.instead high low) new₀ new i
 
-abbrev decreases-loop : tie.decreases-loop
+abbrev decreases-loop : tie.decreases-loop-i
 decreases-loop left right a b low high new₀ i₀ new i = 4 - i
 
 -- `let a = old[left]`
-array-read-a : tie.Need-array-read-a invariant-loop decreases-loop
+array-read-a : tie.Need-bounds-old-left invariant-loop decreases-loop
 array-read-a c = search rules
 
 -- `let b = old[right]`
-array-read-b : tie.Need-array-read-b invariant-loop decreases-loop
+array-read-b : tie.Need-bounds-old-right invariant-loop decreases-loop
 array-read-b c = search rules
 
 -- `let low = lower(a, b)`
-lower-requires : tie.Need-lower-requires invariant-loop decreases-loop
+lower-requires : tie.Need-lower-low-requires invariant-loop decreases-loop
 lower-requires c κs = search rules
 
 -- `let high = higher(a, b)`
-higher-requires : tie.Need-higher-requires invariant-loop decreases-loop
+higher-requires : tie.Need-higher-high-requires invariant-loop decreases-loop
 higher-requires c κs = search rules
 
 -- `while i < 4`
-loop-holds : tie.Need-loop-init invariant-loop decreases-loop
+loop-holds : tie.Need-loop-i-init invariant-loop decreases-loop
 loop-holds c = joined_none _ _
 
 -- `new[i] = instead(high, low, new[i])`
-array-read-instead : tie.Need-array-read-instead invariant-loop decreases-loop
+array-read-instead : tie.Need-bounds-new-i invariant-loop decreases-loop
 array-read-instead c = search rules
 
 -- `new[i] = instead(high, low, new[i])`
@@ -45,35 +45,35 @@ instead-requires : tie.Need-instead-requires invariant-loop decreases-loop
 instead-requires c κs = search rules
 
 -- `new[i] = instead(high, low, new[i])`
-array-write-new : tie.Need-array-write-new invariant-loop decreases-loop
+array-write-new : tie.Need-bounds-new-i-in-loop-i invariant-loop decreases-loop
 array-write-new c = search rules
 
 -- `i += 1`
-add-i : tie.Need-overflow-add-i invariant-loop decreases-loop
+add-i : tie.Need-overflow_add-i invariant-loop decreases-loop
 add-i c = omega arith
 
 -- `while i < 4`
-loop-less : tie.Need-loop-smaller invariant-loop decreases-loop
+loop-less : tie.Need-loop-i-smaller invariant-loop decreases-loop
 loop-less c = omega arith
 
 -- `while i < 4`
-loop-again : tie.Need-loop-preserved invariant-loop decreases-loop
+loop-again : tie.Need-loop-i-preserved invariant-loop decreases-loop
 loop-again c =
-    let l = c.before.before.loop in
-    joined_more _ _ _ l.i _ c.before.loop-test.true l.invariant c.instead.ensures
+    let l = c.loop-i in
+    joined_more _ _ _ l.i _ c.loop-i-test.true l.invariant c.instead.ensures
 
 -- `new`
 returns : tie.Need-returns invariant-loop decreases-loop
 unfolding lead.join
 returns c =
-    let l = c.before.loop in
-    let old = c.before.before.before.before.args.t1 in
+    let l = c.loop-i in
+    let old = c.args.old in
     let few : length old ≤ l.i = omega arith in
     joined_all _ old l.new l.i few l.invariant
-    ∙ ap₂ (λ (x y : ℕ). map (lead.instead x y) old) c.before.before.higher.ensures c.before.before.before.lower.ensures
+    ∙ ap₂ (λ (x y : ℕ). map (lead.instead x y) old) c.higher-high.ensures c.lower-low.ensures
 
-pub join-spec : {M : Type 1} → statement M
-join-spec =
+pub join_spec : {M : Type 1} → statement M
+join_spec =
     tie.close
     (tie.spec
     invariant-loop

@@ -1,7 +1,7 @@
 -- `ties::keeps_ties` meets its contract. The invariant: the test of the ties from k on is the test of all.
-use mathlib.Core.Path.{◌≡◌, refl, sym, ◌∙◌}
-use mathlib.Core.Bool.{◌&&◌}
-use Prim.Native.Nat.{◌+◌, ◌-◌, ◌≤◌}
+use mathlib.Core.Path.{◌≡◌, refl, sym, ◌∙◌, ap}
+use mathlib.Core.Bool.{◌&&◌, not}
+use Prim.Native.Nat.{◌+◌, ◌-◌, ◌<◌, ◌≤◌}
 use native.Mathlib.Omega.{arith}
 use lib.ListN.{drop}
 use borrow.Author.Tests.{not-true, not-false}
@@ -14,79 +14,79 @@ use Rattle.ties.proofs.TablesOfArrays.{tie_left, tie_right, tie_proper, ties_tur
 use Rattle.ties.proofs.keeps_ties.Statement.{statement}
 use Rattle.ties.proofs.keeps_ties.Tie as tie
 
-abbrev invariant-loop : tie.invariant-loop
+abbrev invariant-loop : tie.invariant-loop-k
 invariant-loop kinds tables a lefts rights n k₀ k = (k ≤ n) × (all (kept (architecture_of a) tables) (drop k (ties_in a)) ≡ keeps_ties (architecture_of a) tables)
 
-abbrev decreases-loop : tie.decreases-loop
+abbrev decreases-loop : tie.decreases-loop-k
 decreases-loop kinds tables a lefts rights n k₀ k = n - k
 
 -- `while k < n`
-loop-holds : tie.Need-loop-init invariant-loop decreases-loop
+loop-holds : tie.Need-loop-k-init invariant-loop decreases-loop
 unfolding keeps_ties architecture_of
 loop-holds c = (omega arith, refl)
 
 -- the entry of the function
-abbrev entry : tie.At-loop invariant-loop decreases-loop → tie.Start invariant-loop decreases-loop
+abbrev entry : tie.At-loop-k invariant-loop decreases-loop → tie.Start invariant-loop decreases-loop
 entry l = l.before.before.before.before.before
 
-module _ (c : tie.In-loop invariant-loop decreases-loop) where
+module _ (l : tie.At-loop-k invariant-loop decreases-loop) where
   -- tie k
   abbrev tied : Tie
-  tied = let a = (entry c.before).args.a in tie_of a.lefts a.rights c.before.loop.k
+  tied = let a = (entry l).args.a in tie_of a.lefts a.rights l.loop-k.k
 
-  proper : ProperTie (processes_in (entry c.before).args.a) tied
-  proper = tie_proper (entry c.before).args.a (entry c.before).pre.0 c.before.loop.k c.loop-test.true
+  proper : l.loop-k.k < (entry l).args.a.ties → ProperTie (processes_in (entry l).args.a) tied
+  proper h = tie_proper (entry l).args.a (entry l).requires.0 l.loop-k.k h
 
-  here : let a = (entry c.before).args.a in let test = kept (architecture_of a) (entry c.before).args.tables.now in
-      keeps_ties (architecture_of a) (entry c.before).args.tables.now ≡ (test tied && all test (drop (c.before.loop.k + 1) (ties_in a)))
-  here = sym c.before.loop.invariant.1 ∙ ties_turn (entry c.before).args.a _ c.before.loop.k c.loop-test.true
-
--- `if !is_kept(kinds, tables, a, lefts[k] as usize, rights[k] as usize)`
-array-read-is-kept : tie.Need-array-read-is-kept invariant-loop decreases-loop
-array-read-is-kept c = omega (arith, c.loop-test.true, (entry c.before).pre.0.arrays.few_ties)
+here : (c : tie.In-loop-k invariant-loop decreases-loop) → let a = (entry c.before).args.a in let test = kept (architecture_of a) (entry c.before).args.tables.now in
+    keeps_ties (architecture_of a) (entry c.before).args.tables.now ≡ (test (tied c.before) && all test (drop (c.loop-k.k + 1) (ties_in a)))
+here c = sym c.loop-k.invariant.1 ∙ ties_turn (entry c.before).args.a _ c.loop-k.k c.loop-k-test.true
 
 -- `if !is_kept(kinds, tables, a, lefts[k] as usize, rights[k] as usize)`
-cast-is-kept : tie.Need-overflow-cast-is-kept invariant-loop decreases-loop
-cast-is-kept c = let b = entry c.before in omega (arith, tie_left b.args.a (tied c) (proper c), b.pre.0.arrays.few_processes)
+array-read-is-kept : tie.Need-bounds-lefts-k invariant-loop decreases-loop
+array-read-is-kept c = omega (arith, c.loop-k-test.true, (entry c.before).requires.0.arrays.few_ties)
 
 -- `if !is_kept(kinds, tables, a, lefts[k] as usize, rights[k] as usize)`
-array-read-is-kept-2 : tie.Need-array-read-is-kept-2 invariant-loop decreases-loop
-array-read-is-kept-2 c = omega (arith, c.loop-test.true, (entry c.before).pre.0.arrays.few_ties)
+cast-is-kept : tie.Need-overflow_cast-lefts invariant-loop decreases-loop
+cast-is-kept c = let b = entry c.before in omega (arith, tie_left b.args.a (tied c.before) (proper c.before c.loop-k-test.true), b.requires.0.arrays.few_processes)
 
 -- `if !is_kept(kinds, tables, a, lefts[k] as usize, rights[k] as usize)`
-cast-is-kept-2 : tie.Need-overflow-cast-is-kept-2 invariant-loop decreases-loop
-cast-is-kept-2 c = let b = entry c.before in omega (arith, tie_right b.args.a (tied c) (proper c), b.pre.0.arrays.few_processes)
+array-read-is-kept-2 : tie.Need-bounds-rights-k invariant-loop decreases-loop
+array-read-is-kept-2 c = omega (arith, c.loop-k-test.true, (entry c.before).requires.0.arrays.few_ties)
 
 -- `if !is_kept(kinds, tables, a, lefts[k] as usize, rights[k] as usize)`
-is-kept-requires : tie.Need-is-kept-requires invariant-loop decreases-loop
-is-kept-requires c κs = let b = entry c.before in (b.pre.0, (b.pre.1.0, (b.pre.1.1, proper c)))
+cast-is-kept-2 : tie.Need-overflow_cast-rights invariant-loop decreases-loop
+cast-is-kept-2 c = let b = entry c.before in omega (arith, tie_right b.args.a (tied c.before) (proper c.before c.loop-k-test.true), b.requires.0.arrays.few_processes)
+
+-- `if !is_kept(kinds, tables, a, lefts[k] as usize, rights[k] as usize)`
+is-kept-requires : tie.Need-is_kept-requires invariant-loop decreases-loop
+is-kept-requires c κs = let b = entry c.before in (b.requires.0, (b.requires.1.0, (b.requires.1.1, proper c.before c.loop-k-test.true)))
 
 -- `return false`
-returns : tie.Need-returns invariant-loop decreases-loop
-returns c = sym (here c.before.before ∙ and_off _ (sym c.before.is-kept.ensures ∙ not-true _ c.if1.true))
+returns : tie.Need-returns-then-not-is_kept invariant-loop decreases-loop
+returns c = sym (here c.before.before ∙ and_off _ (sym c.is_kept.ensures ∙ not-true _ (ap not c.if-not-is_kept.true)))
 
 -- `k += 1`
-add-k : tie.Need-overflow-add-k invariant-loop decreases-loop
-add-k c = let l = c.before.before in omega (arith, l.loop-test.true, (entry l.before).pre.0.arrays.few_ties)
+add-k : tie.Need-overflow_add-k invariant-loop decreases-loop
+add-k c = let l = c.before.before in omega (arith, l.loop-k-test.true, (entry l.before).requires.0.arrays.few_ties)
 
 -- `while k < n`
-loop-less : tie.Need-loop-smaller invariant-loop decreases-loop
-loop-less c = omega (arith, c.before.before.loop-test.true)
+loop-less : tie.Need-loop-k-smaller invariant-loop decreases-loop
+loop-less c = omega (arith, c.loop-k-test.true)
 
 -- `while k < n`
-loop-again : tie.Need-loop-preserved invariant-loop decreases-loop
+loop-again : tie.Need-loop-k-preserved invariant-loop decreases-loop
 loop-again c =
     let l = c.before.before in
-    (omega (arith, l.loop-test.true), sym (here l ∙ and_on _ (sym c.before.is-kept.ensures ∙ not-false _ c.if1.false)))
+    (omega (arith, l.loop-k-test.true), sym (here l ∙ and_on _ (sym c.is_kept.ensures ∙ not-false _ (ap not c.if-not-is_kept.false))))
 
 -- `true`
-returns-2 : tie.Need-returns-2 invariant-loop decreases-loop
+returns-2 : tie.Need-returns invariant-loop decreases-loop
 returns-2 c =
     let l = c.before in
-    sym (sym l.loop.invariant.1 ∙ ties_done (entry l).args.a _ l.loop.k (omega (arith, c.loop-test.false, l.loop.invariant.0)))
+    sym (sym l.loop-k.invariant.1 ∙ ties_done (entry l).args.a _ l.loop-k.k (omega (arith, c.loop-k-test.false, l.loop-k.invariant.0)))
 
-pub keeps-ties-spec : {M : Type 1} → statement M
-keeps-ties-spec =
+pub keeps_ties_spec : {M : Type 1} → statement M
+keeps_ties_spec =
     tie.close
     (tie.spec
     invariant-loop

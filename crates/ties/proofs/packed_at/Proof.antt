@@ -5,28 +5,28 @@ use Rattle.ties.proofs.packed_at.Statement.{statement}
 use Rattle.ties.proofs.packed_at.Tie as tie
 
 -- `packed_value(kinds[k], tables[k])`
-mul-packed-value : tie.Need-overflow-mul-packed-value
+mul-packed-value : tie.Need-offset_bounds-kinds-k
 mul-packed-value c = search rules
 
 -- `packed_value(kinds[k], tables[k])`
-shared-slice-read-packed-value : tie.Need-shared-slice-read-packed-value
+shared-slice-read-packed-value : tie.Need-bounds-kinds-k
 shared-slice-read-packed-value c = search rules
 
 -- `packed_value(kinds[k], tables[k])`
-shared-slice-read-packed-value-2 : tie.Need-shared-slice-read-packed-value-2
+shared-slice-read-packed-value-2 : tie.Need-bounds-tables-k
 shared-slice-read-packed-value-2 c = search rules
 
 -- `packed_value(kinds[k], tables[k])`
-packed-value-requires : tie.Need-packed-value-requires
+packed-value-requires : tie.Need-packed_value-requires
 packed-value-requires c κs = search rules
 
 -- `packed_value(kinds[k], tables[k])`
 returns : tie.Need-returns
 unfolding packed_in
-returns c = c.packed-value.ensures
+returns c = c.packed_value.ensures
 
-pub packed-at-spec : {M : Type 1} → statement M
-packed-at-spec =
+pub packed_at_spec : {M : Type 1} → statement M
+packed_at_spec =
     tie.close
     (tie.spec
     mul-packed-value

@@ -7,7 +7,7 @@ use Rattle.ties.proofs.packed_value.Statement.{statement}
 use Rattle.ties.proofs.packed_value.Tie as tie
 
 -- `return composition::pack(mask_of(kind), value)`
-mask-of-requires : tie.Need-mask-of-requires
+mask-of-requires : tie.Need-mask_of-requires
 mask-of-requires c κs = search rules
 
 -- `return composition::pack(mask_of(kind), value)`
@@ -15,12 +15,12 @@ pack-requires : tie.Need-pack-requires
 pack-requires c κs = search rules
 
 -- `return composition::pack(mask_of(kind), value)`
-returns : tie.Need-returns
-returns c = let b = c.before.before in c.pack.ensures ∙ rw c.before.mask-of.ensures (sym (packed_output _ b.if1.true _))
+returns : tie.Need-returns-then-kind-eq0
+returns c = let b = c.before.before in c.pack.ensures ∙ rw c.mask_of.ensures (sym (packed_output _ b.if-kind-eq0.true _))
 
 -- `value as usize`
-returns-2 : tie.Need-returns-2
-returns-2 c = sym (packed_next _ c.if1.false _)
+returns-2 : tie.Need-returns
+returns-2 c = sym (packed_next _ c.if-kind-eq0.false _)
 
-pub packed-value-spec : {M : Type 1} → statement M
-packed-value-spec = tie.close (tie.spec mask-of-requires pack-requires returns returns-2)
+pub packed_value_spec : {M : Type 1} → statement M
+packed_value_spec = tie.close (tie.spec mask-of-requires pack-requires returns returns-2)
