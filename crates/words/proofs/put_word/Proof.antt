@@ -10,31 +10,31 @@ use Rattle.words.proofs.put_word.Statement.{statement}
 use Rattle.words.proofs.put_word.Tie as tie
 
 -- `bytes[at] = (word % 256) as u8`
-cast-bytes : tie.Need-overflow-cast-bytes
+cast-bytes : tie.Need-overflow_cast-bytes
 cast-bytes c = search rules
 
 -- `bytes[at] = (word % 256) as u8`
-slice-write-bytes : tie.Need-slice-write-bytes
+slice-write-bytes : tie.Need-bounds-bytes-at
 slice-write-bytes c = search rules
 
 -- `bytes[at + 1] = (word / 256) as u8`
-cast-bytes-2 : tie.Need-overflow-cast-bytes-2
+cast-bytes-2 : tie.Need-overflow_cast-bytes-2
 cast-bytes-2 c = search rules
 
 -- `bytes[at + 1] = (word / 256) as u8`
-add-bytes : tie.Need-overflow-add-bytes
+add-bytes : tie.Need-overflow_add-bytes
 add-bytes c = search rules
 
 -- `bytes[at + 1] = (word / 256) as u8`
-slice-write-bytes-2 : tie.Need-slice-write-bytes-2
+slice-write-bytes-2 : tie.Need-bounds-bytes-at-2
 slice-write-bytes-2 c = simp length-set (omega arith)
 
 -- `at + 2`
-add-result : tie.Need-overflow-add-result
+add-result : tie.Need-overflow_add-result
 add-result c = search rules
 
 -- `at + 2`
-same_length : tie.Need-same-length
+same_length : tie.Need-shape_of-bytes
 same_length c = search rules
 
 -- `at + 2`
@@ -44,8 +44,8 @@ returns c =
     let a = c.args in
     rw (add_assoc a.at 1 1) at (append_next (append_one a.bytes.now a.at (a.word % 256) (omega arith)) (a.word / 256) (slice-write-bytes-2 c))
 
-pub put-word-spec : {M : Type 1} → statement M
-put-word-spec =
+pub put_word_spec : {M : Type 1} → statement M
+put_word_spec =
     tie.close
     (tie.spec
     cast-bytes
