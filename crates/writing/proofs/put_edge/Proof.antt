@@ -9,29 +9,27 @@ use Rattle.writing.proofs.put_edge.Statement.{statement}
 use Rattle.writing.proofs.put_edge.Tie as tie
 
 -- `let after_mark = put_mark(sheet, at, edge.unless)`
-put-mark-requires : tie.Need-put-mark-requires
-put-mark-requires c κs = omega (arith, c.before.before.requires, edge_long (edge_of c.before.before.args.edge))
+put-mark-requires : tie.Need-put_mark-after_mark-requires
+put-mark-requires c κs = omega (arith, c.requires, edge_long (edge_of c.args.edge))
 
 -- `&[edge.from.0, edge.to.0, edge.on, edge.off]`
-slice-aggregate-put-bytes : tie.Need-slice-aggregate-put-bytes
+slice-aggregate-put-bytes : tie.Need-slice_bounds-put_bytes-end
 slice-aggregate-put-bytes c = search rules
 
 -- `put_bytes(`
-put-bytes-requires : tie.Need-put-bytes-requires
+put-bytes-requires : tie.Need-put_bytes-requires
 put-bytes-requires c κs =
-    let m = c.before.before.before.before in
-    let b = m.before.before.before in
-    let e = edge_of b.args.edge in
-    omega (arith, b.requires, edge_long e, mark_long e.unless, m.put-mark.ensures.ends, m.put-mark.auto.0)
+    let e = edge_of c.args.edge in
+    omega (arith, c.requires, edge_long e, mark_long e.unless, c.put_mark-after_mark.ensures.ends, c.put_mark-after_mark.auto.sheet)
 
 -- `put_bytes(`
-same_length : tie.Need-same-length
+same_length : tie.Need-shape_of-sheet
 same_length c = search rules
 
 -- `put_bytes(`
 returns : tie.Need-returns
 unfolding edge_bytes
-returns c = append_more c.before.before.before.before.before.before.before.put-mark.ensures c.before.before.put-bytes.ensures
+returns c = append_more c.put_mark-after_mark.ensures c.put_bytes.ensures
 
-pub put-edge-spec : {M : Type 1} → statement M
-put-edge-spec = tie.close (tie.spec put-mark-requires slice-aggregate-put-bytes put-bytes-requires same_length returns)
+pub put_edge_spec : {M : Type 1} → statement M
+put_edge_spec = tie.close (tie.spec put-mark-requires slice-aggregate-put-bytes put-bytes-requires same_length returns)

@@ -21,71 +21,62 @@ room b =
     omega (arith, b.requires.1, length-append (front ++ (states ++ edges)) (0x45 ∷ 0x4E ∷ []), length-append front (states ++ edges), length-append states edges)
 
 -- ---- back from each part
-abbrev entry : tie.After-put-bytes → tie.Start
+abbrev entry : tie.After-put_bytes-after_front → tie.Start
 entry c = c.before.before.before.before
 
-abbrev front : tie.After-put-states → tie.After-put-bytes
+abbrev front : tie.After-put_states-after_states → tie.After-put_bytes-after_front
 front c = c.before.before.before.before
 
-abbrev states : tie.After-put-edges → tie.After-put-states
+abbrev states : tie.After-put_edges-after_edges → tie.After-put_states-after_states
 states c = c.before.before.before.before
 
 -- `let after_front = put_bytes(sheet, 0, front)`
-put-bytes-requires : tie.Need-put-bytes-requires
+put-bytes-requires : tie.Need-put_bytes-after_front-requires
 put-bytes-requires c κs = omega (arith, room c.before.before.before)
 
 -- `let after_states = put_states(sheet, after_front, u)`
-put-states-requires : tie.Need-put-states-requires
-put-states-requires c κs = let f = c.before.before.before in omega (arith, room (entry f), f.put-bytes.ensures.ends, f.put-bytes.auto.0)
+put-states-requires : tie.Need-put_states-after_states-requires
+put-states-requires c κs = let f = c.before.before.before in omega (arith, room (entry f), f.put_bytes-after_front.ensures.ends, f.put_bytes-after_front.auto.text)
 
 -- `let after_edges = put_edges(sheet, after_states, u)`
-put-edges-requires : tie.Need-put-edges-requires
+put-edges-requires : tie.Need-put_edges-after_edges-requires
 put-edges-requires c κs =
     let s = c.before.before.before in
     let f = front s in
-    ((entry f).pre.0, omega (arith, room (entry f), f.put-bytes.ensures.ends, f.put-bytes.kept.0, s.put-states.ensures.ends, s.put-states.auto.0))
+    ((entry f).requires.0, omega (arith, room (entry f), f.put_bytes-after_front.ensures.ends, f.put_bytes-after_front.auto.text, s.put_states-after_states.ensures.ends, s.put_states-after_states.auto.sheet))
 
 -- `put_bytes(sheet, after_edges, &EN)`
-slice-aggregate-put-bytes : tie.Need-slice-aggregate-put-bytes
-slice-aggregate-put-bytes c = search rules
-
--- `put_bytes(sheet, after_edges, &EN)`
-put-bytes-requires-2 : tie.Need-put-bytes-requires-2
+put-bytes-requires-2 : tie.Need-put_bytes-requires
 put-bytes-requires-2 c κs =
-    let e = c.before.before.before.before in
-    let s = states e in
-    let f = front s in
+    let f = front (states c.before.before.before.before.before) in
     omega (
       arith,
       room (entry f),
-      f.put-bytes.ensures.ends,
-      f.put-bytes.kept.0,
-      s.put-states.ensures.ends,
-      s.put-states.kept.0,
-      e.put-edges.ensures.ends,
-      e.put-edges.auto.0,
+      c.put_bytes-after_front.ensures.ends,
+      c.put_bytes-after_front.auto.text,
+      c.put_states-after_states.ensures.ends,
+      c.put_states-after_states.auto.sheet,
+      c.put_edges-after_edges.ensures.ends,
+      c.put_edges-after_edges.auto.sheet,
     )
 
 -- `put_bytes(sheet, after_edges, &EN)`
-same_length : tie.Need-same-length
+same_length : tie.Need-shape_of-sheet
 same_length c = search rules
 
 -- `put_bytes(sheet, after_edges, &EN)`
 returns : tie.Need-returns
 unfolding automaton_bytes automaton_of
 returns c =
-    let e = c.before.before.before.before.before.before.before in
-    let s = states e in
-    append_more (append_more (front s).put-bytes.ensures (append_more s.put-states.ensures e.put-edges.ensures)) c.before.before.put-bytes2.ensures
+    append_more (append_more c.put_bytes-after_front.ensures (append_more c.put_states-after_states.ensures c.put_edges-after_edges.ensures)) c.put_bytes.ensures
 
-pub put-sheet-spec : {M : Type 1} → statement M
-put-sheet-spec =
+pub put_sheet_spec : {M : Type 1} → statement M
+put_sheet_spec =
     tie.close
     (tie.spec
     put-bytes-requires
     put-states-requires
     put-edges-requires
-    slice-aggregate-put-bytes
     put-bytes-requires-2
     same_length
     returns)

@@ -8,49 +8,44 @@ use Rattle.writing.proofs.put_states.Statement.{statement}
 use Rattle.writing.proofs.put_states.Tie as tie
 
 -- `let after_mark = put_bytes(sheet, at, &AU)`
-slice-aggregate-put-bytes : tie.Need-slice-aggregate-put-bytes
-slice-aggregate-put-bytes c = search rules
-
--- `let after_mark = put_bytes(sheet, at, &AU)`
-put-bytes-requires : tie.Need-put-bytes-requires
+put-bytes-requires : tie.Need-put_bytes-after_mark-requires
 unfolding states_bytes
-put-bytes-requires c κs = omega (arith, c.before.before.before.requires)
+put-bytes-requires c κs = omega (arith, c.requires)
 
 -- `(u.rejecting % 256) as u8,`
-cast-t14 : tie.Need-overflow-cast-t14
+cast-t14 : tie.Need-overflow_cast-u
 cast-t14 c = search rules
 
 -- `(u.rejecting / 256) as u8,`
-cast-t16 : tie.Need-overflow-cast-t16
+cast-t16 : tie.Need-overflow_cast-u-2
 cast-t16 c = search rules
 
 -- `&[`
-slice-aggregate-put-bytes-2 : tie.Need-slice-aggregate-put-bytes-2
-slice-aggregate-put-bytes-2 c = search rules
+slice-aggregate-put-bytes : tie.Need-slice_bounds-put_bytes-end-2
+slice-aggregate-put-bytes c = search rules
 
 -- `put_bytes(`
-put-bytes-requires-2 : tie.Need-put-bytes-requires-2
+put-bytes-requires-2 : tie.Need-put_bytes-requires
 unfolding states_bytes
-put-bytes-requires-2 c κs = let p = c.before.before.before.before.before.before in omega (arith, p.before.before.before.before.requires, p.put-bytes.ensures.ends, p.put-bytes.auto.0)
+put-bytes-requires-2 c κs = omega (arith, c.requires, c.put_bytes-after_mark.ensures.ends, c.put_bytes-after_mark.auto.text)
 
 -- `fn put_states(sheet: &mut [u8], at: usize, u: Automaton) -> usize`
-same_length : tie.Need-same-length
+same_length : tie.Need-shape_of-sheet
 same_length c = search rules
 
 -- `fn put_states(sheet: &mut [u8], at: usize, u: Automaton) -> usize`
 returns : tie.Need-returns
 unfolding states_bytes automaton_of
-returns c = append_more c.before.before.before.before.before.before.before.before.before.put-bytes.ensures c.before.before.put-bytes2.ensures
+returns c = append_more c.put_bytes-after_mark.ensures c.put_bytes.ensures
 
-pub put-states-spec : {M : Type 1} → statement M
-put-states-spec =
+pub put_states_spec : {M : Type 1} → statement M
+put_states_spec =
     tie.close
     (tie.spec
-    slice-aggregate-put-bytes
     put-bytes-requires
     cast-t14
     cast-t16
-    slice-aggregate-put-bytes-2
+    slice-aggregate-put-bytes
     put-bytes-requires-2
     same_length
     returns)
