@@ -14,29 +14,29 @@ use Rattle.joining.proofs.JoinFacts.{arrays, ends_few}
 use Rattle.joining.proofs.automata.with_edges.Statement.{statement}
 use Rattle.joining.proofs.automata.with_edges.Tie as tie
 
-abbrev invariant-loop : tie.invariant-loop
+abbrev invariant-loop : tie.invariant-loop-i
 invariant-loop u by n joined₀ i₀ joined i = (i ≤ n) × Added (map (moved by)) u joined₀ joined i
 
-abbrev decreases-loop : tie.decreases-loop
+abbrev decreases-loop : tie.decreases-loop-i
 decreases-loop u by n joined₀ i₀ joined i = n - i
 
-each : (c : tie.At-loop invariant-loop decreases-loop) → Each (map (moved c.before.args.by))
-each c = moved_each c.before.args.by
+each : (c : tie.At-loop-i invariant-loop decreases-loop) → Each (map (moved c.args.by))
+each c = moved_each c.args.by
 
 -- `while i < n`
-loop-holds : tie.Need-loop-init invariant-loop decreases-loop
+loop-holds : tie.Need-loop-i-init invariant-loop decreases-loop
 loop-holds c = (omega arith, added_none _ _ _ c.requires.0.0)
 
 -- `joined = joined.with_edge(moved(u.edge(i), by))`
 edge-requires : tie.Need-edge-requires invariant-loop decreases-loop
-edge-requires c κs = (arrays c.before.before.requires.0.1, c.loop-test.true)
+edge-requires c κs = (arrays c.requires.0.1, c.loop-i-test.true)
 
 -- `joined = joined.with_edge(moved(u.edge(i), by))`
 moved-requires : tie.Need-moved-requires invariant-loop decreases-loop
 moved-requires c κs =
     let l = c.before.before in
     let b = l.before in
-    let own = ends_few b.requires.0.1 l.loop.i c.before.loop-test.true c.edge.result c.edge.ensures in
+    let own = ends_few b.requires.0.1 l.loop-i.i c.loop-i-test.true c.edge.result c.edge.ensures in
     (omega (arith, own.0, b.requires.0.2), omega (arith, own.1, b.requires.0.2))
 
 -- there is room for all
@@ -44,37 +44,37 @@ room : (b : tie.Start invariant-loop decreases-loop) → b.args.into.edges + len
 room b = omega (arith, b.requires.1, length-map (first_in b.args.u b.args.u.edges) (moved b.args.by), edges_length b.args.u)
 
 -- `joined = joined.with_edge(moved(u.edge(i), by))`
-with-edge-requires : tie.Need-with-edge-requires invariant-loop decreases-loop
+with-edge-requires : tie.Need-with_edge-joined-requires invariant-loop decreases-loop
 with-edge-requires c κs =
     let l = c.before.before.before in
-    let e = c.before.edge in
-    (l.loop.invariant.1.arrays, omega (arith, added_room (each l) l.loop.invariant.1 (edge_of e.result) e.ensures c.before.before.loop-test.true (room l.before)))
+    let e = c.edge in
+    (l.loop-i.invariant.1.arrays, omega (arith, added_room (each l) l.loop-i.invariant.1 (edge_of e.result) e.ensures c.loop-i-test.true (room l.before)))
 
 -- `i += 1`
-add-i : tie.Need-overflow-add-i invariant-loop decreases-loop
-add-i c = let t = c.before.before.before in omega (arith, t.loop-test.true, (arrays t.before.before.requires.0.1).few_edges)
+add-i : tie.Need-overflow_add-i invariant-loop decreases-loop
+add-i c = let t = c.before.before.before in omega (arith, t.loop-i-test.true, (arrays t.requires.0.1).few_edges)
 
 -- `while i < n`
-loop-less : tie.Need-loop-smaller invariant-loop decreases-loop
-loop-less c = omega (arith, c.before.before.before.loop-test.true)
+loop-less : tie.Need-loop-i-smaller invariant-loop decreases-loop
+loop-less c = omega (arith, c.loop-i-test.true)
 
 -- `while i < n`
-loop-again : tie.Need-loop-preserved invariant-loop decreases-loop
+loop-again : tie.Need-loop-i-preserved invariant-loop decreases-loop
 unfolding with_edge with_edges
 loop-again c =
     let t = c.before.before.before in
     let l = t.before in
-    let e = c.before.before.edge in
-    let own : automaton_of c.with-edge.result ≡ with_edges (automaton_of l.loop.joined) (map (moved l.before.args.by) (edge_of e.result ∷ [])) =
-    c.with-edge.ensures.0 ∙ ap (λ (x : Edge). with_edges (automaton_of l.loop.joined) (x ∷ [])) c.before.moved.ensures in
-    (omega (arith, t.loop-test.true), added_next (each l) l.loop.invariant.1 (edge_of e.result) e.ensures t.loop-test.true c.with-edge.ensures.1.0 own)
+    let e = c.edge in
+    let own : automaton_of c.with_edge-joined.result ≡ with_edges (automaton_of l.loop-i.joined) (map (moved l.args.by) (edge_of e.result ∷ [])) =
+    c.with_edge-joined.ensures.0 ∙ ap (λ (x : Edge). with_edges (automaton_of l.loop-i.joined) (x ∷ [])) c.moved.ensures in
+    (omega (arith, t.loop-i-test.true), added_next (each l) l.loop-i.invariant.1 (edge_of e.result) e.ensures t.loop-i-test.true c.with_edge-joined.ensures.1.0 own)
 
 -- `joined`
 returns : tie.Need-returns invariant-loop decreases-loop
-returns c = let l = c.before in (added_all (each l) l.loop.invariant.1 (omega (arith, c.loop-test.false, l.loop.invariant.0)), l.loop.invariant.1.arrays)
+returns c = let l = c.before in (added_all (each l) l.loop-i.invariant.1 (omega (arith, c.loop-i-test.false, l.loop-i.invariant.0)), l.loop-i.invariant.1.arrays)
 
-pub with-edges-spec : {M : Type 1} → statement M
-with-edges-spec =
+pub with_edges_spec : {M : Type 1} → statement M
+with_edges_spec =
     tie.close
     (tie.spec
     invariant-loop
