@@ -1,5 +1,6 @@
 // Books: writing tables, reading them back, and the part of one process.
 #![tactic(auto)]
+
 ghost use Rattle.std.specs.Prelude.{◌≡◌, ◌≤◌, length};
 ghost use Rattle.model.specs.Book as model;
 ghost use Rattle.model.specs.Reading.{refused};

@@ -20,31 +20,31 @@ part-turn : (p : Process) (ps : List Process) (n k : ℕ) → k < n → part_sta
 unfolding part_start
 part-turn p ps n k h = let e : n - k ≡ suc (n - (k + 1)) = omega arith in rw e
 
-abbrev invariant-loop : tie.invariant-loop
+abbrev invariant-loop : tie.invariant-loop-k
 invariant-loop a i at₀ k₀ at k = (k ≤ i) × ((at ≤ 84 * k) × (at + part_start (drop k (processes_in a)) (i - k) ≡ part_start (processes_in a) i))
 
-abbrev decreases-loop : tie.decreases-loop
+abbrev decreases-loop : tie.decreases-loop-k
 decreases-loop a i at₀ k₀ at k = i - k
 
 -- `while k < i`
-loop-holds : tie.Need-loop-init invariant-loop decreases-loop
+loop-holds : tie.Need-loop-k-init invariant-loop decreases-loop
 loop-holds c = (omega arith, (omega arith, let z : c.args.i - 0 ≡ c.args.i = omega arith in rw z (omega arith)))
 
 -- `at += a.bound_of(k) * (4 + architecture::row_length(a.inputs_of(k)))`
-bound-of-requires : tie.Need-bound-of-requires invariant-loop decreases-loop
-bound-of-requires c κs = (c.before.before.requires.0, omega (arith, c.loop-test.true, c.before.before.requires.1))
+bound-of-requires : tie.Need-bound_of-requires invariant-loop decreases-loop
+bound-of-requires c κs = (c.requires.0, omega (arith, c.loop-k-test.true, c.requires.1))
 
 -- `at += a.bound_of(k) * (4 + architecture::row_length(a.inputs_of(k)))`
-inputs-of-requires : tie.Need-inputs-of-requires invariant-loop decreases-loop
+inputs-of-requires : tie.Need-inputs_of-requires invariant-loop decreases-loop
 inputs-of-requires c κs = bound-of-requires c.before κs
 
 -- `at += a.bound_of(k) * (4 + architecture::row_length(a.inputs_of(k)))`
-row-length-requires : tie.Need-row-length-requires invariant-loop decreases-loop
+row-length-requires : tie.Need-row_length-requires invariant-loop decreases-loop
 row-length-requires c κs = search rules
 
-module _ (c : tie.After-row-length invariant-loop decreases-loop) where
+module _ (c : tie.After-row_length invariant-loop decreases-loop) where
   -- in the loop, and the entry of the function
-  abbrev turn : tie.In-loop invariant-loop decreases-loop
+  abbrev turn : tie.In-loop-k invariant-loop decreases-loop
   turn = c.before.before.before
 
   abbrev entry : tie.Start invariant-loop decreases-loop
@@ -52,72 +52,72 @@ module _ (c : tie.After-row-length invariant-loop decreases-loop) where
 
   -- process k
   abbrev p : Process
-  p = process_in entry.args.a turn.before.loop.k
+  p = process_in entry.args.a turn.loop-k.k
 
   -- how long its records are, as the code has it
   abbrev size : ℕ
-  size = c.before.before.bound_of.result * (4 + c.row_length_lem.result)
+  size = c.bound_of.result * (4 + c.row_length.result)
 
-  inside : turn.before.loop.k < entry.args.a.processes
-  inside = omega (arith, turn.loop-test.taken, entry.pre.1)
+  inside : turn.loop-k.k < entry.args.a.processes
+  inside = omega (arith, turn.loop-k-test.true, entry.requires.1)
 
-  row-known : c.row_length_lem.result ≡ row_length p
-  row-known = let a = entry.args.a in row_is (process_in a) turn.before.loop.k _ _ c.before.inputs-of.ensures c.row_length_lem.ensures
+  row-known : c.row_length.result ≡ row_length p
+  row-known = let a = entry.args.a in row_is (process_in a) turn.loop-k.k _ _ c.inputs_of.ensures c.row_length.ensures
 
   size-known : size ≡ records_length p
   unfolding records_length
-  size-known = ap₂ (λ (m n : ℕ). m * (4 + n)) c.before.before.bound_of.ensures row-known
+  size-known = ap₂ (λ (m n : ℕ). m * (4 + n)) c.bound_of.ensures row-known
 
   -- the records are few and short
-  short : c.row_length_lem.result ≤ 17
-  short = omega (arith, row-known, row_few p ((facts entry.pre.0).few_inputs turn.before.loop.k inside))
+  short : c.row_length.result ≤ 17
+  short = omega (arith, row-known, row_few p ((facts entry.requires.0).few_inputs turn.loop-k.k inside))
 
   few : size ≤ 84
   few =
-      let states : c.before.before.bound_of.result ≤ 4 = omega (arith, c.before.before.bound_of.ensures, (facts entry.pre.0).few_states turn.before.loop.k inside) in
-      mul-le-mul {m₁ = 4 + c.row_length_lem.result} {m₂ = 21} states (omega (arith, short))
+      let states : c.bound_of.result ≤ 4 = omega (arith, c.bound_of.ensures, (facts entry.requires.0).few_states turn.loop-k.k inside) in
+      mul-le-mul {m₁ = 4 + c.row_length.result} {m₂ = 21} states (omega (arith, short))
 
 -- `at += a.bound_of(k) * (4 + architecture::row_length(a.inputs_of(k)))`
-add_at : tie.Need-overflow-add-at invariant-loop decreases-loop
+add_at : tie.Need-overflow_add-at invariant-loop decreases-loop
 add_at c = omega (arith, short c)
 
 -- `at += a.bound_of(k) * (4 + architecture::row_length(a.inputs_of(k)))`
-mul_at : tie.Need-overflow-mul-at invariant-loop decreases-loop
+mul_at : tie.Need-overflow_mul-at invariant-loop decreases-loop
 mul_at c = omega (arith, few c)
 
 -- `at += a.bound_of(k) * (4 + architecture::row_length(a.inputs_of(k)))`
-add-at-2 : tie.Need-overflow-add-at-2 invariant-loop decreases-loop
-add-at-2 c = omega (arith, few c, (turn c).before.loop.invariant.1.0, inside c, (entry c).requires.0.arrays.few_processes)
+add-at-2 : tie.Need-overflow_add-at-in-loop-k invariant-loop decreases-loop
+add-at-2 c = omega (arith, few c, (turn c).loop-k.invariant.1.0, inside c, (entry c).requires.0.arrays.few_processes)
 
 -- `k += 1`
-add-k : tie.Need-overflow-add-k invariant-loop decreases-loop
+add-k : tie.Need-overflow_add-k invariant-loop decreases-loop
 add-k c = omega (arith, inside c, (entry c).requires.0.arrays.few_processes)
 
 -- `while k < i`
-loop-less : tie.Need-loop-smaller invariant-loop decreases-loop
-loop-less c = omega (arith, (turn c).loop-test.true)
+loop-less : tie.Need-loop-k-smaller invariant-loop decreases-loop
+loop-less c = omega (arith, (turn c).loop-k-test.true)
 
 -- `while k < i`
-loop-again : tie.Need-loop-preserved invariant-loop decreases-loop
+loop-again : tie.Need-loop-k-preserved invariant-loop decreases-loop
 loop-again c =
-    let l = (turn c).before.loop in
+    let l = (turn c).loop-k in
     let a = (entry c).args.a in
-    let h = (turn c).loop-test.true in
+    let h = (turn c).loop-k-test.true in
     let next = process_next (process_in a) a.processes l.k (inside c) in (
       omega (arith, h),
-      (omega (arith, l.inv.1.0, few c), omega (arith, size-known c, part-turn (p c) (drop (l.k + 1) (processes_in a)) (entry c).args.i l.k h, rw next at l.inv.1.1)),
+      (omega (arith, l.invariant.1.0, few c), omega (arith, size-known c, part-turn (p c) (drop (l.k + 1) (processes_in a)) (entry c).args.i l.k h, rw next at l.invariant.1.1)),
     )
 
 -- `at`
 returns : tie.Need-returns invariant-loop decreases-loop
 unfolding part_start
 returns c =
-    let l = c.before.loop in
-    let z : c.before.before.args.i - l.k ≡ 0 = omega (arith, c.loop-test.false) in
+    let l = c.loop-k in
+    let z : c.args.i - l.k ≡ 0 = omega (arith, c.loop-k-test.false) in
     omega (arith, rw z at l.invariant.1.1)
 
-pub part-start-spec : {M : Type 1} → statement M
-part-start-spec =
+pub part_start_spec : {M : Type 1} → statement M
+part_start_spec =
     tie.close
     (tie.spec
     invariant-loop

@@ -21,42 +21,42 @@ nowhere-requires : tie.Need-nowhere-requires
 nowhere-requires c κs = search rules
 
 -- `return nowhere(Refusal::NoSuchProcess)`
-returns : tie.Need-returns
+returns : tie.Need-returns-then-n-i
 unfolding part_for no_process cut
 returns c =
-    let a = c.before.before.before.args in
-    c.nowhere.ensures ∙ sym (ap (λ (k : Reading Architecture). cut k a.i) (stop _ _ (le-leb _ _ (rw (← count_is a.a) at c.before.if1.true))))
+    let a = c.args in
+    c.nowhere.ensures ∙ sym (ap (λ (k : Reading Architecture). cut k a.i) (stop _ _ (le-leb _ _ (rw (← count_is a.a) at c.if-n-i.true))))
 
 -- `let read = read_for(a, book)`
-read-for-requires : tie.Need-read-for-requires
+read-for-requires : tie.Need-read_for-read-requires
 read-for-requires c κs = search rules
 
 -- `Reply::Refused(refusal) => nowhere(refusal)`
-enum-known-answer : tie.Need-enum-known-answer
+enum-known-answer : tie.Need-enum_known-answer
 enum-known-answer c = search rules
 
 -- `Reply::Refused(refusal) => nowhere(refusal)`
-nowhere-requires-2 : tie.Need-nowhere-requires-2
+nowhere-requires-2 : tie.Need-nowhere-requires-in-Refused
 nowhere-requires-2 c κs = search rules
 
 -- `answer: Reply::Done`
-enum_told : tie.Need-enum-told
+enum_told : tie.Need-enum_told-1
 enum_told c = search rules
 
 -- `start: part_start(a, i)`
-part-start-requires : tie.Need-part-start-requires
+part-start-requires : tie.Need-part_start-requires
 part-start-requires c κs = search rules
 
 -- `end: part_start(a, i + 1)`
-add-part-start : tie.Need-overflow-add-part-start
+add-part-start : tie.Need-overflow_add-i
 add-part-start c = search rules
 
 -- `end: part_start(a, i + 1)`
-part-start-requires-2 : tie.Need-part-start-requires-2
+part-start-requires-2 : tie.Need-part_start-requires-in-Done
 part-start-requires-2 c κs = search rules
 
 -- there is such a process: the book decides
-module _ (c : tie.After-read-for) where
+module _ (c : tie.After-read_for-read) where
   abbrev entry : tie.Start
   entry = c.before.before.before
 
@@ -68,33 +68,33 @@ module _ (c : tie.After-read-for) where
 
   known : part_for s entry.args.book.now entry.args.i ≡ (reading then λ x. proper s)
   unfolding part_for no_process
-  known = go _ _ (lt-leb _ _ (rw (← count_is entry.args.a) at c.before.if1.false))
+  known = go _ _ (lt-leb _ _ (rw (← count_is entry.args.a) at c.if-n-i.false))
 
   -- what reading answered
-  answered : (gave reading).answer ≡ c.read-for.result.answer
-  answered = sym (ap (λ (x : AfterRead). x.answer) c.read-for.ensures)
+  answered : (gave reading).answer ≡ c.read_for-read.result.answer
+  answered = sym (ap (λ (x : AfterRead). x.answer) c.read_for-read.ensures)
 
 -- `match answer`
-returns-2 : tie.Need-returns-2
+returns-2 : tie.Need-returns-in-Refused
 unfolding cut ◌then◌
 returns-2 c =
-    let r = c.before.before.before.before in
-    let refusal = c.before.before.answer.given.0.0 in
-    let e : reading r ≡ refused refusal = gave_refused (reading r) refusal (answered r ∙ c.before.before.answer.given.1) in
+    let r = c.before.before in
+    let refusal = c.in-Refused.refusal in
+    let e : reading r ≡ refused refusal = gave_refused (reading r) refusal (answered r ∙ c.in-Refused.is) in
     let part : part_for (s r) (entry r).args.book.now (entry r).args.i ≡ refused refusal = known r ∙ rw e in
-    rw part c.nowhere2.ensures
+    rw part c.nowhere-in-Refused.ensures
 
 -- `match answer`
-returns-3 : tie.Need-returns-3
+returns-3 : tie.Need-returns-in-Done
 unfolding cut ◌then◌ part_end architecture_of
 returns-3 c =
-    let r = c.before.before.before.before in
-    let e = gave_done (reading r) (answered r ∙ c.before.before.enum_told.given.1) in
+    let r = c.before.before.before in
+    let e = gave_done (reading r) (answered r ∙ c.in-Done.is) in
     let part : part_for (s r) (entry r).args.book.now (entry r).args.i ≡ proper (s r) = known r ∙ rw e.1 in
-    rw (part, c.before.part-start.ensures, c.part-start2.ensures, add-one (entry r).args.i)
+    rw (part, c.part_start.ensures, c.part_start-in-Done.ensures, add-one (entry r).args.i)
 
-pub range-for-spec : {M : Type 1} → statement M
-range-for-spec =
+pub range_for_spec : {M : Type 1} → statement M
+range_for_spec =
     tie.close
     (tie.spec
     nowhere-requires

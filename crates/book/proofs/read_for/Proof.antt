@@ -20,19 +20,19 @@ use Rattle.book.proofs.read_for.Statement.{statement}
 use Rattle.book.proofs.read_for.Tie as tie
 
 -- `let n = layout::fill_slots(&mut slots, a)`
-slice-aggregate-fill-slots : tie.Need-slice-aggregate-fill-slots
+slice-aggregate-fill-slots : tie.Need-slice_bounds-fill_slots-end
 slice-aggregate-fill-slots c = search rules
 
 -- `let n = layout::fill_slots(&mut slots, a)`
-fill-slots-requires : tie.Need-fill-slots-requires
+fill-slots-requires : tie.Need-fill_slots-n-requires
 fill-slots-requires c κs = search rules
 
 -- `if is_malformed(&slots, n, book)`
-slice-aggregate-is-malformed : tie.Need-slice-aggregate-is-malformed
+slice-aggregate-is-malformed : tie.Need-slice_bounds-is_malformed-end
 slice-aggregate-is-malformed c = search rules
 
 -- `if is_malformed(&slots, n, book)`
-is-malformed-requires : tie.Need-is-malformed-requires
+is-malformed-requires : tie.Need-is_malformed-requires
 is-malformed-requires c κs = search rules
 
 -- `return unread(Refusal::BadBook)`
@@ -40,9 +40,9 @@ unread-requires : tie.Need-unread-requires
 unread-requires c κs = search rules
 
 -- the book was tested
-module _ (c : tie.After-is-malformed) where
+module _ (c : tie.After-is_malformed) where
   -- the slots were filled
-  abbrev filled : tie.After-fill-slots
+  abbrev filled : tie.After-fill_slots-n
   filled = c.before.before.before
 
   abbrev entry : tie.Start
@@ -55,37 +55,37 @@ module _ (c : tie.After-is-malformed) where
   book = entry.args.book.now
 
   -- 10, as the code tests it
-  malformed : c.is-malformed.result ≡ book_fault s book
+  malformed : c.is_malformed.result ≡ book_fault s book
   unfolding book_fault
-  malformed = c.is-malformed.ensures ∙ ap (λ (ps : List Slot). not (well_formed ps book)) filled.fill-slots.ensures.1
+  malformed = c.is_malformed.ensures ∙ ap (λ (ps : List Slot). not (well_formed ps book)) filled.fill_slots-n.ensures.1
 
 -- `return unread(Refusal::BadBook)`
-returns : tie.Need-returns
+returns : tie.Need-returns-then-is_malformed
 unfolding read_book
-returns c = c.unread.ensures ∙ ap gave (sym (stop _ _ (sym (malformed c.before.before) ∙ c.before.if1.true)))
+returns c = c.unread.ensures ∙ ap gave (sym (stop _ _ (sym (malformed c.before.before) ∙ c.if-is_malformed.true)))
 
 -- `take_entries(&mut tables, &slots, n, book)`
-slice-aggregate-take-entries : tie.Need-slice-aggregate-take-entries
+slice-aggregate-take-entries : tie.Need-slice_bounds-take_entries-end
 slice-aggregate-take-entries c = search rules
 
 -- `take_entries(&mut tables, &slots, n, book)`
-slice-aggregate-take-entries-2 : tie.Need-slice-aggregate-take-entries-2
+slice-aggregate-take-entries-2 : tie.Need-slice_bounds-take_entries-end-2
 slice-aggregate-take-entries-2 c = search rules
 
 -- the book is as long as it must be
-long : (c : tie.Else1) → length (book c.before) ≡ length (form (s c.before))
+long : (c : tie.Else-is_malformed) → length (book c.before) ≡ length (form (s c.before))
 unfolding book_fault
-long c = right_length (form (s c.before)) (book c.before) (not-false _ (sym (malformed c.before) ∙ c.if1.false))
+long c = right_length (form (s c.before)) (book c.before) (not-false _ (sym (malformed c.before) ∙ c.if-is_malformed.false))
 
 -- `take_entries(&mut tables, &slots, n, book)`
-take-entries-requires : tie.Need-take-entries-requires
+take-entries-requires : tie.Need-take_entries-requires
 unfolding book_length
 take-entries-requires c κs =
     let t = c.before.before.before in
-    let n = (filled t).fill-slots in
+    let n = (filled t).fill_slots-n in
     let start = entry t in (
-      (omega (arith, n.kept.0, n.ensures.0.1), omega (arith, n.ensures.0.0, long c.before.before)),
-      omega (arith, form_holes start.args.a start.pre _ n.ensures.1),
+      (omega (arith, n.auto.slots, n.ensures.0.1), omega (arith, n.ensures.0.0, long c.before.before)),
+      omega (arith, form_holes start.args.a start.requires _ n.ensures.1),
     )
 
 -- `fitting(a, tables)`
@@ -93,21 +93,21 @@ fitting-requires : tie.Need-fitting-requires
 fitting-requires c κs = search rules
 
 -- `fitting(a, tables)`
-returns-2 : tie.Need-returns-2
+returns-2 : tie.Need-returns
 unfolding read_book tables_of
 returns-2 c =
-    let taken = c.before.before.take-entries in
+    let taken = c.take_entries in
     let formed = c.before.before.before.before.before in
     let t = formed.before in
     let read = entries_in (form (s t)) (book t) in
-    let tables_are : taken.new.0 ≡ tables_of read = taken.ensures ∙ ap (λ (ps : List Slot). tables_of (entries_in ps (book t))) (filled t).fill-slots.ensures.1 in
+    let tables_are : taken.new.tables ≡ tables_of read = taken.ensures ∙ ap (λ (ps : List Slot). tables_of (entries_in ps (book t))) (filled t).fill_slots-n.ensures.1 in
     let as_many : length read ≡ length (entries (s t)) = entries_length (form (s t)) (book t) (omega (arith, long formed)) ∙ holes_form (s t) in
     c.fitting.ensures
     ∙ rw tables_are (fitting_is (s t) read (omega (arith, as_many)))
-    ∙ ap gave (sym (go _ _ (sym (malformed t) ∙ formed.if1.false)))
+    ∙ ap gave (sym (go _ _ (sym (malformed t) ∙ formed.if-is_malformed.false)))
 
-pub read-for-spec : {M : Type 1} → statement M
-read-for-spec =
+pub read_for_spec : {M : Type 1} → statement M
+read_for_spec =
     tie.close
     (tie.spec
     slice-aggregate-fill-slots

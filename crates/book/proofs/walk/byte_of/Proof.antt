@@ -8,30 +8,36 @@ use Rattle.book.proofs.walk.byte_of.Statement.{statement}
 use Rattle.book.proofs.walk.byte_of.Tie as tie
 
 -- `return tables[e]`
-shared-slice-read-result : tie.Need-shared-slice-read-result
+shared-slice-read-result : tie.Need-bounds-tables-e
 unfolding holes
-shared-slice-read-result c = omega (arith, rw (slot_entry _ c.before.if1.true) at c.before.before.requires)
+shared-slice-read-result c = omega (arith, rw (slot_entry _ c.if-slot-eq0.true) at c.requires)
 
 -- `return tables[e]`
-returns : tie.Need-returns
+returns : tie.Need-returns-then-slot-eq0
 unfolding filled holes
 returns c =
-    let a = c.before.before.args in
-    rw (slot_entry _ c.before.if1.true, drop-cons a.tables.now a.e 0 (omega (arith, rw (slot_entry _ c.before.if1.true) at c.before.before.requires)))
+    let a = c.args in
+    rw (slot_entry _ c.if-slot-eq0.true, drop-cons a.tables.now a.e 0 (omega (arith, rw (slot_entry _ c.if-slot-eq0.true) at c.requires)))
 
 -- `((slot - 1) % 256) as u8`
-sub-result : tie.Need-overflow-sub-result
+sub-result : tie.Need-overflow_sub-result
 sub-result c = search rules
 
 -- `((slot - 1) % 256) as u8`
-cast-result : tie.Need-overflow-cast-result
+cast-result : tie.Need-overflow_cast-result
 cast-result c = search rules
 
 -- `((slot - 1) % 256) as u8`
-returns-2 : tie.Need-returns-2
+returns-2 : tie.Need-returns
 unfolding filled
-returns-2 c = rw (slot_due _ c.if1.false)
+returns-2 c = rw (slot_due _ c.if-slot-eq0.false)
 
-pub byte-of-spec : {M : Type 1} → statement M
-byte-of-spec =
-    tie.close (tie.spec shared-slice-read-result returns sub-result cast-result returns-2)
+pub byte_of_spec : {M : Type 1} → statement M
+byte_of_spec =
+    tie.close
+    (tie.spec
+    shared-slice-read-result
+    returns
+    sub-result
+    cast-result
+    returns-2)

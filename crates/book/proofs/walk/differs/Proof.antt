@@ -7,18 +7,18 @@ use Rattle.book.proofs.walk.differs.Statement.{statement}
 use Rattle.book.proofs.walk.differs.Tie as tie
 
 -- `return false`
-returns : tie.Need-returns
+returns : tie.Need-returns-then-slot-eq0
 unfolding well_formed
-returns c = rw (slot_entry _ c.if1.true)
+returns c = rw (slot_entry _ c.if-slot-eq0.true)
 
 -- `byte as u16 != (slot - 1) % 256`
-sub-result : tie.Need-overflow-sub-result
+sub-result : tie.Need-overflow_sub-result
 sub-result c = search rules
 
 -- `byte as u16 != (slot - 1) % 256`
-returns-2 : tie.Need-returns-2
+returns-2 : tie.Need-returns
 unfolding well_formed
-returns-2 c = rw (slot_due _ c.if1.false, and-true)
+returns-2 c = rw (slot_due _ c.if-slot-eq0.false, and-true)
 
-pub differs-spec : {M : Type 1} → statement M
-differs-spec = tie.close (tie.spec returns sub-result returns-2)
+pub differs_spec : {M : Type 1} → statement M
+differs_spec = tie.close (tie.spec returns sub-result returns-2)

@@ -7,18 +7,18 @@ use Rattle.book.proofs.walk.entry_after.Statement.{statement}
 use Rattle.book.proofs.walk.entry_after.Tie as tie
 
 -- `return e + 1`
-add-result : tie.Need-overflow-add-result
+add-result : tie.Need-overflow_add-result
 add-result c = search rules
 
 -- `return e + 1`
-returns : tie.Need-returns
+returns : tie.Need-returns-then-slot-eq0
 unfolding holes
-returns c = rw (slot_entry _ c.if1.true)
+returns c = rw (slot_entry _ c.if-slot-eq0.true)
 
 -- `e`
-returns-2 : tie.Need-returns-2
+returns-2 : tie.Need-returns
 unfolding holes
-returns-2 c = rw (slot_due _ c.if1.false) (omega arith)
+returns-2 c = rw (slot_due _ c.if-slot-eq0.false) (omega arith)
 
-pub entry-after-spec : {M : Type 1} → statement M
-entry-after-spec = tie.close (tie.spec add-result returns returns-2)
+pub entry_after_spec : {M : Type 1} → statement M
+entry_after_spec = tie.close (tie.spec add-result returns returns-2)

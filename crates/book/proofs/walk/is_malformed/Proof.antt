@@ -15,33 +15,33 @@ use Rattle.book.proofs.OneSlotMore.{wrong_length, slots_length, well_turn}
 use Rattle.book.proofs.walk.is_malformed.Statement.{statement}
 use Rattle.book.proofs.walk.is_malformed.Tie as tie
 
-abbrev invariant-loop : tie.invariant-loop
+abbrev invariant-loop : tie.invariant-loop-k
 invariant-loop slots n book k₀ k = (k ≤ n) × (well_formed (map slot_of (drop k (take n slots))) (drop k book) ≡ well_formed (slots_of slots n) book)
 
-abbrev decreases-loop : tie.decreases-loop
+abbrev decreases-loop : tie.decreases-loop-k
 decreases-loop slots n book k₀ k = n - k
 
 -- `return true`
-returns : tie.Need-returns invariant-loop decreases-loop
+returns : tie.Need-returns-then-book-n invariant-loop decreases-loop
 returns c =
     let b = c.before.before.before in
     let long = slots_length b.args.slots.now b.args.n b.requires in
-    sym (ap not (wrong_length (slots_of b.args.slots.now b.args.n) b.args.book.now (λ e. omega (arith, c.if1.true, e, long))))
+    sym (ap not (wrong_length (slots_of b.args.slots.now b.args.n) b.args.book.now (λ e. omega (arith, c.if-book-n.true, e, long))))
 
 -- `while k < n`
-loop-holds : tie.Need-loop-init invariant-loop decreases-loop
+loop-holds : tie.Need-loop-k-init invariant-loop decreases-loop
 loop-holds c = (omega arith, refl)
 
 -- `if differs(slots[k], book[k])`
-mul-differs : tie.Need-overflow-mul-differs invariant-loop decreases-loop
+mul-differs : tie.Need-offset_bounds-slots-k invariant-loop decreases-loop
 mul-differs c = omega arith
 
 -- `if differs(slots[k], book[k])`
-shared-slice-read-differs : tie.Need-shared-slice-read-differs invariant-loop decreases-loop
+shared-slice-read-differs : tie.Need-bounds-slots-k invariant-loop decreases-loop
 shared-slice-read-differs c = omega arith
 
 -- `if differs(slots[k], book[k])`
-shared-slice-read-differs-2 : tie.Need-shared-slice-read-differs-2 invariant-loop decreases-loop
+shared-slice-read-differs-2 : tie.Need-bounds-book-k invariant-loop decreases-loop
 shared-slice-read-differs-2 c = omega arith
 
 -- `if differs(slots[k], book[k])`
@@ -54,7 +54,7 @@ module _ (c : tie.After-differs invariant-loop decreases-loop) where
   entry = c.before.before.before.before.before.before.before.before
 
   abbrev k : ℕ
-  k = c.before.before.before.before.loop.k
+  k = c.loop-k.k
 
   -- the test at slot k, and that from the next slot on
   unfoldable test : Bool
@@ -67,9 +67,9 @@ module _ (c : tie.After-differs invariant-loop decreases-loop) where
   unfolding test rest
   here =
       let a = entry.args in
-      let h = c.before.before.before.loop-test.true in
+      let h = c.loop-k-test.true in
       let l = c.before.before.before.before in
-      sym l.loop.invariant.1 ∙ well_turn a.slots.now a.book.now a.n k h entry.pre (omega (arith, h, l.before.if1.false))
+      sym l.loop-k.invariant.1 ∙ well_turn a.slots.now a.book.now a.n k h entry.requires (omega (arith, h, l.if-book-n.false))
 
   -- what the code tested
   tested : not test ≡ c.differs.result
@@ -77,40 +77,40 @@ module _ (c : tie.After-differs invariant-loop decreases-loop) where
   tested = sym c.differs.ensures
 
 -- `return true`
-returns-2 : tie.Need-returns-2 invariant-loop decreases-loop
-returns-2 c = sym (ap not (here c.before ∙ and_off {a = test c.before} (rest c.before) (not-true _ (tested c.before ∙ c.if2.true))))
+returns-2 : tie.Need-returns-then-differs invariant-loop decreases-loop
+returns-2 c = sym (ap not (here c.before ∙ and_off {a = test c.before} (rest c.before) (not-true _ (tested c.before ∙ c.if-differs.true))))
 
 -- `k += 1`
-add-k : tie.Need-overflow-add-k invariant-loop decreases-loop
+add-k : tie.Need-overflow_add-k invariant-loop decreases-loop
 add-k c = omega arith
 
 -- in the loop
-abbrev turn : tie.Else2 invariant-loop decreases-loop → tie.In-loop invariant-loop decreases-loop
+abbrev turn : tie.Else-differs invariant-loop decreases-loop → tie.In-loop-k invariant-loop decreases-loop
 turn c = c.before.before.before.before
 
 -- `while k < n`
-loop-less : tie.Need-loop-smaller invariant-loop decreases-loop
-loop-less c = omega (arith, (turn c).loop-test.true)
+loop-less : tie.Need-loop-k-smaller invariant-loop decreases-loop
+loop-less c = omega (arith, (turn c).loop-k-test.true)
 
 -- `while k < n`
-loop-again : tie.Need-loop-preserved invariant-loop decreases-loop
+loop-again : tie.Need-loop-k-preserved invariant-loop decreases-loop
 unfolding rest
 loop-again c =
-    (omega (arith, (turn c).loop-test.true), sym (here c.before ∙ and_on {a = test c.before} (rest c.before) (not-false _ (tested c.before ∙ c.if2.false))))
+    (omega (arith, (turn c).loop-k-test.true), sym (here c.before ∙ and_on {a = test c.before} (rest c.before) (not-false _ (tested c.before ∙ c.if-differs.false))))
 
 -- `false`
-returns-3 : tie.Need-returns-3 invariant-loop decreases-loop
+returns-3 : tie.Need-returns invariant-loop decreases-loop
 unfolding well_formed
 returns-3 c =
-    let l = c.before.loop in
+    let l = c.loop-k in
     let b = c.before.before.before.before.before in
     let few = length-take-le b.args.n b.args.slots.now b.requires in
-    let slots-done = drop_of_length-le (take b.args.n b.args.slots.now) {i = l.k} (omega (arith, few, c.loop-test.false)) in
-    let book-done = drop_of_length-le b.args.book.now {i = l.k} (omega (arith, c.loop-test.false, c.before.before.if1.false)) in
+    let slots-done = drop_of_length-le (take b.args.n b.args.slots.now) {i = l.k} (omega (arith, few, c.loop-k-test.false)) in
+    let book-done = drop_of_length-le b.args.book.now {i = l.k} (omega (arith, c.loop-k-test.false, c.if-book-n.false)) in
     ap not (rw (slots-done, book-done) at l.invariant.1)
 
-pub is-malformed-spec : {M : Type 1} → statement M
-is-malformed-spec =
+pub is_malformed_spec : {M : Type 1} → statement M
+is_malformed_spec =
     tie.close
     (tie.spec
     invariant-loop

@@ -12,82 +12,82 @@ use Rattle.book.proofs.OneSlotMore.{filled_more, holes_more, holes_fit, holes_ro
 use Rattle.book.proofs.walk.put_bytes.Statement.{statement}
 use Rattle.book.proofs.walk.put_bytes.Tie as tie
 
-abbrev invariant-loop : tie.invariant-loop
+abbrev invariant-loop : tie.invariant-loop-k
 invariant-loop book₀ slots n tables e₀ k₀ book e k = (k ≤ n) × (e ≡ holes (slots_of slots k)) × Appends book₀ 0 (filled (slots_of slots k) tables) k book
 
-abbrev decreases-loop : tie.decreases-loop
+abbrev decreases-loop : tie.decreases-loop-k
 decreases-loop book₀ slots n tables e₀ k₀ book e k = n - k
 
 -- back into the loop
-abbrev turn : tie.After-entry-after invariant-loop decreases-loop → tie.In-loop invariant-loop decreases-loop
+abbrev turn : tie.After-entry_after-e invariant-loop decreases-loop → tie.In-loop-k invariant-loop decreases-loop
 turn c = c.before.before.before
 
 -- `while k < n`
-loop-holds : tie.Need-loop-init invariant-loop decreases-loop
+loop-holds : tie.Need-loop-k-init invariant-loop decreases-loop
 unfolding filled holes
-loop-holds c = (omega arith, refl, append_none c.before.before.before.args.book.now 0)
+loop-holds c = (omega arith, refl, append_none c.args.book.now 0)
 
 -- `let slot = slots[k]`
-mul-slot : tie.Need-overflow-mul-slot invariant-loop decreases-loop
+mul-slot : tie.Need-offset_bounds-slots-k invariant-loop decreases-loop
 mul-slot c = omega arith
 
 -- `let slot = slots[k]`
-shared-slice-read-slot : tie.Need-shared-slice-read-slot invariant-loop decreases-loop
+shared-slice-read-slot : tie.Need-bounds-slots-k invariant-loop decreases-loop
 shared-slice-read-slot c = omega arith
 
-module _ (c : tie.At-loop invariant-loop decreases-loop) where
+module _ (c : tie.At-loop-k invariant-loop decreases-loop) where
   -- the entry of the function
   abbrev entry : tie.Start invariant-loop decreases-loop
   entry = c.before.before.before.before
 
   -- the buffer keeps its length
-  long : length c.loop.book ≡ length entry.args.book.now
-  long = append_length c.loop.invariant.2 (omega (arith, c.loop.invariant.0, entry.pre.0.1))
+  long : length c.loop-k.book ≡ length entry.args.book.now
+  long = append_length c.loop-k.invariant.2 (omega (arith, c.loop-k.invariant.0, entry.requires.0.1))
 
 -- `book[k] = byte_of(slot, tables, e)`
-byte-of-requires : tie.Need-byte-of-requires invariant-loop decreases-loop
+byte-of-requires : tie.Need-byte_of-requires invariant-loop decreases-loop
 byte-of-requires c κs =
     let l = c.before.before in
     let a = (entry l).args in
     let p = (entry l).requires in
-    omega (arith, l.loop.invariant.1, holes_room a.slots.now a.n (length a.tables.now) p.0.0 p.1.0 l.loop.k c.before.loop-test.true)
+    omega (arith, l.loop-k.invariant.1, holes_room a.slots.now a.n (length a.tables.now) p.0.0 p.1.0 l.loop-k.k c.loop-k-test.true)
 
 -- `book[k] = byte_of(slot, tables, e)`
-slice-write-book : tie.Need-slice-write-book invariant-loop decreases-loop
-slice-write-book c = let l = c.before.before.before in omega (arith, long l, c.before.before.loop-test.true, (entry l).requires.0.1)
+slice-write-book : tie.Need-bounds-book-k invariant-loop decreases-loop
+slice-write-book c = let l = c.before.before.before in omega (arith, long l, c.loop-k-test.true, (entry l).requires.0.1)
 
 -- `e = entry_after(slot, e)`
-entry-after-requires : tie.Need-entry-after-requires invariant-loop decreases-loop
+entry-after-requires : tie.Need-entry_after-e-requires invariant-loop decreases-loop
 entry-after-requires c κs =
     let l = c.before.before.before in
     let a = (entry l).args in
     let p = (entry l).requires in
-    omega (arith, l.loop.invariant.1, holes_fit a.slots.now a.n (length a.tables.now) p.0.0 p.1.0 l.loop.k l.loop.invariant.0, p.1.1)
+    omega (arith, l.loop-k.invariant.1, holes_fit a.slots.now a.n (length a.tables.now) p.0.0 p.1.0 l.loop-k.k l.loop-k.invariant.0, p.1.1)
 
 -- `k += 1`
-add-k : tie.Need-overflow-add-k invariant-loop decreases-loop
-add-k c = omega (arith, (turn c).loop-test.true)
+add-k : tie.Need-overflow_add-k invariant-loop decreases-loop
+add-k c = omega (arith, (turn c).loop-k-test.true)
 
 -- `while k < n`
-loop-less : tie.Need-loop-smaller invariant-loop decreases-loop
-loop-less c = omega (arith, (turn c).loop-test.true)
+loop-less : tie.Need-loop-k-smaller invariant-loop decreases-loop
+loop-less c = omega (arith, (turn c).loop-k-test.true)
 
 -- `while k < n`
-loop-again : tie.Need-loop-preserved invariant-loop decreases-loop
+loop-again : tie.Need-loop-k-preserved invariant-loop decreases-loop
 loop-again c =
     let l = (turn c).before in
-    let h = (turn c).loop-test.true in
+    let h = (turn c).loop-k-test.true in
     let a = (entry l).args in
-    let inside : l.loop.k < length a.slots.now = omega (arith, h, (entry l).pre.0.0) in
-    let more = filled_more a.slots.now a.tables.now l.loop.k inside in
-    let next = append_next l.loop.inv.2 c.before.byte_of.result (slice-write-book c.before) in (
+    let inside : l.loop-k.k < length a.slots.now = omega (arith, h, (entry l).requires.0.0) in
+    let more = filled_more a.slots.now a.tables.now l.loop-k.k inside in
+    let next = append_next l.loop-k.invariant.2 c.byte_of.result (slice-write-book c.before) in (
       omega (arith, h),
-      c.entry-after.ensures ∙ rw l.loop.inv.1 (sym (holes_more a.slots.now l.loop.k inside)),
-      rw (more, ← l.loop.inv.1, ← c.before.byte_of.ensures) next,
+      c.entry_after-e.ensures ∙ rw l.loop-k.invariant.1 (sym (holes_more a.slots.now l.loop-k.k inside)),
+      rw (more, ← l.loop-k.invariant.1, ← c.byte_of.ensures) next,
     )
 
 -- `while k < n`
-same_length : tie.Need-same-length invariant-loop decreases-loop
+same_length : tie.Need-shape_of-book invariant-loop decreases-loop
 same_length c = long c.before
 
 -- `while k < n`
@@ -95,11 +95,11 @@ returns : tie.Need-returns invariant-loop decreases-loop
 unfolding front
 returns c =
     let a = (entry c.before).args in
-    let l = c.before.loop in
-    append_front (λ (k : ℕ). filled (slots_of a.slots.now k) a.tables.now) l.k a.n (omega (arith, c.loop-test.false, l.invariant.0)) l.invariant.2
+    let l = c.loop-k in
+    append_front (λ (k : ℕ). filled (slots_of a.slots.now k) a.tables.now) l.k a.n (omega (arith, c.loop-k-test.false, l.invariant.0)) l.invariant.2
 
-pub put-bytes-spec : {M : Type 1} → statement M
-put-bytes-spec =
+pub put_bytes_spec : {M : Type 1} → statement M
+put_bytes_spec =
     tie.close
     (tie.spec
     invariant-loop
