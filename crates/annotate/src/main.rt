@@ -1,5 +1,6 @@
 // Annotates the book in a file: prints `greatest` and the greatest number of the annotation, `loop` and the run that breaks the sheet, or `refused` and the
 // number, with the cause on standard error. With a third name it writes the annotation to that file, in words of two bytes, the low byte first.
+#![tactic(auto)]
 ghost use Rattle.std.specs.Prelude.{◌≡◌, ◌≤◌, length};
 ghost use Rattle.model.specs.declared.Finding.TheVariants.{Yes, No};
 ghost use Rattle.model.specs.declared.Verdict.{Verdict as Answer};

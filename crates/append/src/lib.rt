@@ -1,4 +1,5 @@
 // Words and bytes written behind what was written: each function answers the index behind what it wrote.
+#![tactic(auto)]
 ghost use Rattle.std.specs.Prelude.{◌∷◌, [], ◌+◌, ◌<◌, ◌≤◌, length, replicate};
 ghost use Rattle.append.specs.Appends.{Appends};
 

@@ -1,4 +1,5 @@
 // A universal co-Büchi automaton: what AU and the ED and EX records of a sheet say.
+#![tactic(auto)]
 ghost use Rattle.std.specs.Prelude.{◌≡◌, [], ◌+◌, ◌<◌};
 ghost use Rattle.model.specs.Sheet as model;
 ghost use Rattle.model.specs.RunGraph.{matches, meets};
@@ -7,7 +8,7 @@ ghost use Rattle.automaton.specs.Struct.{Arrays, edge_of, edge_in, automaton_of}
 use model::AutomatonState;
 
 // Between automaton states: an ED is met by a label with all of `on` and none of `off`, an EX, which says unless, by any other.
-#[derive(Drop)]
+#[derive(Clone, Copy)]
 pub struct Edge {
     pub from: AutomatonState,
     pub to: AutomatonState,
@@ -17,7 +18,7 @@ pub struct Edge {
 }
 
 // The first `edges` of from, to, on, off and unless count.
-#[derive(Drop)]
+#[derive(Clone, Copy)]
 pub struct Automaton {
     pub states: u8,
     pub initial: AutomatonState,

@@ -1,4 +1,5 @@
 // Books: writing tables, reading them back, and the part of one process.
+#![tactic(auto)]
 ghost use Rattle.std.specs.Prelude.{◌≡◌, ◌≤◌, length};
 ghost use Rattle.model.specs.Book as model;
 ghost use Rattle.model.specs.Reading.{refused};
@@ -13,14 +14,14 @@ use model::{Refusal, Reply};
 use walk::{is_malformed, put_bytes, take_entries};
 
 // What reading answers, and the tables: zeros where it is refused.
-#[derive(Drop)]
+#[derive(Clone, Copy)]
 pub struct TablesRead {
     pub answer: Reply,
     pub tables: [u8; 272],
 }
 
 // What asking for a part answers, and where the part is in the book: nowhere, from 0 to 0, where it is refused.
-#[derive(Drop)]
+#[derive(Clone, Copy)]
 pub struct Part {
     pub answer: Reply,
     pub start: usize,

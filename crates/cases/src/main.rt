@@ -1,4 +1,5 @@
 // Runs every bench case through the public calls, and prints what each call answers and writes.
+#![tactic(auto)]
 ghost use Rattle.std.specs.Prelude.{◌<◌};
 
 mod calls;

@@ -1,4 +1,5 @@
 // Why a call was refused, in words, on standard error: the programs share it. Standard output has the refusal's number alone.
+#![tactic(auto)]
 ghost use Rattle.std.specs.Prelude.{◌≡◌};
 ghost use Rattle.model.specs.Calls.{check_of};
 ghost use Rattle.cause.specs.Fault.{faulty, FaultEnds};

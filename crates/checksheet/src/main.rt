@@ -1,4 +1,5 @@
 // Checks the sheet in a file or on standard input: prints `proper`, or `refused` and the number, with the cause on standard error.
+#![tactic(auto)]
 ghost use Rattle.std.specs.Prelude.{◌≡◌, ◌≤◌, length};
 ghost use Rattle.template.specs.Holds.{Holds};
 ghost use Rattle.checksheet.specs.Printed.{reply_text, printed};

@@ -1,4 +1,5 @@
 // What each entry of a choice may be, as words, and the test of entries against these words.
+#![tactic(auto)]
 ghost use Rattle.std.specs.Prelude.{◌≡◌, not, ◌+◌, ◌*◌, ◌<◌, ◌≤◌, length};
 ghost use Rattle.model.specs.Choice.{entries, may, fits};
 ghost use Rattle.architecture.specs.Struct.{IsProper, architecture_of};

@@ -1,5 +1,6 @@
 // Draws a sheet as one graph for Graphviz: its automaton and, with a book in a second file, each process's table; or `refused` and the number, with
 // the cause on standard error.
+#![tactic(auto)]
 ghost use Rattle.std.specs.Prelude.{◌≡◌, ◌≤◌, length};
 ghost use Rattle.sheet.specs.Struct.{IsProper, sheet_of};
 ghost use Rattle.template.specs.Holds.{Holds};

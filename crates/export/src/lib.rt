@@ -1,5 +1,6 @@
 // The public calls for C and Rust (include/soclethyme.h): an answer is 0 for the good one, 256 for the other finding, otherwise the refusal's number. A label,
 // the length of a sheet or a part of a book is above all of these.
+#![tactic(auto)]
 ghost use Rattle.std.specs.Prelude.{◌≡◌};
 ghost use Rattle.model.specs.Numbers.{reply_code, finding_code, verdict_code, outcome_code, shown_code, written_code};
 ghost use Rattle.model.specs.Calls.{check_of, find_of, write_of, read_of, part_of, judge_of, annotate_of, join_of};

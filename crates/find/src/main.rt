@@ -1,5 +1,6 @@
 // Finds tables for the sheet in a file or on standard input: prints them with the greatest number of their annotation, `none`, or `refused` and the
 // number, with the cause on standard error. With two more names it writes the book and the annotation to these files.
+#![tactic(auto)]
 ghost use Rattle.std.specs.Prelude.{◌≡◌, ◌≤◌, length};
 ghost use Rattle.model.specs.Computed.{first_choice};
 ghost use Rattle.model.specs.Calls.{find_choice, find_of};

@@ -1,4 +1,5 @@
 // The files of a program: each argument names one, and `-` or no argument stands for standard input.
+#![tactic(auto)]
 use libc::{STDERR_FILENO, STDIN_FILENO};
 
 fn is_dash(path: &[u8]) -> bool {

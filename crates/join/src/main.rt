@@ -1,4 +1,5 @@
 // Joins the sheets in two files: writes both as one on standard output; or `refused` and the number, with the cause on standard error.
+#![tactic(auto)]
 ghost use Rattle.std.specs.Prelude.{◌≡◌};
 ghost use Rattle.model.specs.Reading.{refused};
 ghost use Rattle.model.specs.Join.{join_bytes};

@@ -1,4 +1,5 @@
 // Joining two sheets that were read: what cannot be joined, and the sheet that is written.
+#![tactic(auto)]
 ghost use Rattle.std.specs.Prelude.{◌≡◌};
 ghost use Rattle.model.specs.Reading.{◌then◌};
 ghost use Rattle.model.specs.SheetFile.{sheet_bytes};

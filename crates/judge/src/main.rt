@@ -1,4 +1,5 @@
 // Judges the book in a file with the annotation in another: prints `yes`, `no`, or `refused` and the number, with the cause on standard error.
+#![tactic(auto)]
 ghost use Rattle.std.specs.Prelude.{◌≡◌, ◌≤◌, length};
 ghost use Rattle.model.specs.Calls.{judge_of};
 ghost use Rattle.words.specs.Words.{words_of};

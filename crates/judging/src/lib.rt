@@ -1,4 +1,5 @@
 // Judging a book with an annotation, and annotating a book, once the sheet is read.
+#![tactic(auto)]
 ghost use Rattle.std.specs.Prelude.{◌≡◌, ◌*◌, ◌≤◌, length, take};
 ghost use Rattle.model.specs.declared.Finding.TheVariants.{No};
 ghost use Rattle.model.specs.declared.Verdict.{Verdict as Answered};
@@ -14,7 +15,7 @@ use model::{Finding, Refusal, Reply, Verdict};
 use sheet::Sheet;
 
 // What annotating a book answers: the verdict; and on `loop` how many steps the two parts of the run have that is written, otherwise 0.
-#[derive(Drop)]
+#[derive(Clone, Copy)]
 pub struct Annotated {
     pub verdict: Verdict,
     pub stem: usize,

@@ -1,4 +1,5 @@
 // The layout of a sheet's books, as words: what each byte of a book is.
+#![tactic(auto)]
 ghost use Rattle.std.specs.Prelude.{◌≡◌, suc, ◌+◌, ◌<◌, ◌≤◌, length};
 ghost use Rattle.model.specs.Book as book;
 ghost use Rattle.architecture.specs.Struct.{IsProper, architecture_of};

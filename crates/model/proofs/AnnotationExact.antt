@@ -12,7 +12,6 @@ use lib.Count.{ones, ones_step}
 use Rattle.theory.specs.Lists.{one}
 use Rattle.theory.specs.Lists
 use Rattle.theory.specs.Graph.{rejecting_vertices}
-use Rattle.theory.specs.Annotation
 use Rattle.theory.proofs.ListLaws.{count_le}
 use Rattle.theory.proofs.AnnotationLaws.{annotation_length}
 use Rattle.model.specs.Mask.{bit, count}

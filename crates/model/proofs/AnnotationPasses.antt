@@ -6,7 +6,6 @@ use mathlib.Core.List.{List}
 use Prim.Native.Nat.{ℕ, ◌*◌, ◌≤◌, ◌<◌}
 use native.Mathlib.Omega.{arith}
 use lib.ListN.{length, drop, get_or, length-append, get_or-append}
-use Rattle.theory.specs.Annotation
 use Rattle.theory.proofs.ListLaws.{one_le}
 use Rattle.theory.proofs.AnnotationLaws.{valid_exists}
 use Rattle.theory.proofs.ValidLaws.{annotation_test}

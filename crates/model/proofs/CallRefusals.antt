@@ -22,7 +22,7 @@ use Rattle.model.specs.Book.{book_length, book_of, entry_fault, read_book}
 use Rattle.model.specs.Calls.{annotation_short, path_short, book_short, reply, room_to_find, find_sheet, find_choice, find_in, find_of, Chosen, room_for, book_for, book_and_room, judged, judge_of}
 use Rattle.model.specs.Calls.{rooms_for, book_and_rooms_for, book_and_rooms, annotated_by, annotated, annotate_of}
 use Rattle.model.specs.Calls.{written_for, written, wrote, write_of, gave, read_of, no_process, part_for, part_architecture, cut, part_of}
-use Rattle.model.specs.Refusals.{Formed, BookRefused, no_choice}
+use Rattle.model.specs.Refusals.{Formed, BookRefused}
 use Rattle.model.specs.Refusals.{FindRefused, JudgeRefused, AnnotateRefused, WriteRefused, ReadRefused, PartRefused}
 use Rattle.model.proofs.Refusing.{stop, go, refused≢proper, same_refused, refused_when, refused_then, then_refused, then_read}
 use Rattle.model.proofs.BookRead.{chosen_faultless, faultless_chosen, chosen_faulty, choice_formed, choice_read, read_choice, book_refused, refused_book}

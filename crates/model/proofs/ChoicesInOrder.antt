@@ -19,10 +19,12 @@ heads_sound v (d ∷ cs) c (Memᴰ.head e) = (d, Memᴰ.head refl, e)
 heads_sound v (d ∷ cs) c (Memᴰ.tail m) = let r : (d : List ℕ) × Memᴰ d cs × (c ≡ v ∷ d) = heads_sound v cs c m in (r.0, Memᴰ.tail r.1, r.2)
 
 heads_has : (v : ℕ) (cs : List (List ℕ)) (c : List ℕ) → Memᴰ c cs → Memᴰ (v ∷ c) (map (λ d. v ∷ d) cs)
+heads_has v [] c m = elim m [ ]
 heads_has v (d ∷ cs) c (Memᴰ.head e) = Memᴰ.head (ap (λ (x : List ℕ). v ∷ x) e)
 heads_has v (d ∷ cs) c (Memᴰ.tail m) = Memᴰ.tail (heads_has v cs c m)
 
 in_left : {c : List ℕ} (xs ys : List (List ℕ)) → Memᴰ c xs → Memᴰ c (xs ++ ys)
+in_left {c = c} [] ys m = elim m [ ]
 in_left (x ∷ xs) ys (Memᴰ.head e) = Memᴰ.head e
 in_left (x ∷ xs) ys (Memᴰ.tail m) = Memᴰ.tail (in_left xs ys m)
 
@@ -42,6 +44,7 @@ each_sound (v ∷ vs) cs c m = by (Memᴰ.append_cases (map (λ d. v ∷ d) cs) 
 
 each_has : (vs : List ℕ) (cs : List (List ℕ)) (v : ℕ) (c : List ℕ) → Memᴰ v vs → Memᴰ c cs → Memᴰ (v ∷ c) (each vs cs)
 unfolding each
+each_has [] cs v c i m = elim i [ ]
 each_has (u ∷ vs) cs v c (Memᴰ.head e) m = in_left (map (λ d. u ∷ d) cs) (each vs cs) (subst (λ (x : ℕ). Memᴰ (x ∷ c) (map (λ d. u ∷ d) cs)) (sym e) (heads_has u cs c m))
 each_has (u ∷ vs) cs v c (Memᴰ.tail i) m = in_right (map (λ d. u ∷ d) cs) (each vs cs) (each_has vs cs v c i m)
 

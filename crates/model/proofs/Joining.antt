@@ -8,7 +8,7 @@ use borrow.Author.Tests.{le-ltb}
 use Rattle.model.specs.declared.Refusal.TheVariants.{BufferTooShort, FrontsDiffer, JoinTooLarge}
 use Rattle.model.specs.declared.Outcome.{Outcome}
 use Rattle.model.specs.Sheet.{Architecture, Automaton, Sheet, ProperArchitecture, ProperAutomaton, ProperSheet}
-use Rattle.model.specs.Reading.{Reading, proper, EN, ◌then◌, read_sheet}
+use Rattle.model.specs.Reading.{Reading, proper, EN, read_sheet}
 use Rattle.model.specs.SheetFile.{front_bytes, automaton_bytes, records_bytes, sheet_bytes, longest_sheet}
 use Rattle.model.specs.Join.{join_automata, join_sheets, join_for, join_bytes}
 use Rattle.model.specs.Choice.{IsChoice}

@@ -18,7 +18,7 @@ use Rattle.theory.proofs.ListLaws.{filter_sound, filter_complete, from_has}
 use Rattle.model.specs.Mask.{if, bit, within, share}
 use Rattle.model.specs.Sheet.{Edge}
 use Rattle.model.specs.RunGraph.{matches, meets, met}
-use Rattle.model.specs.Demands.{as_eX, with_masks, one_per_variable}
+use Rattle.model.specs.Demands.{as_ex, with_masks, one_per_variable}
 
 -- the value of variable i in a mask or a label
 abbrev digit : ℕ → ℕ → ℕ
@@ -110,11 +110,11 @@ module _ (e : Edge) (q l : ℕ) where
       (and_is (eqb e.from q) _).1 (h.0, ap not f)
 
   -- the EX is met by one mask or by the other
-  ex : met (as_eX e) q l ≡ (failing true || failing false)
+  ex : met (as_ex e) q l ≡ (failing true || failing false)
   unfolding met meets if
   ex = rw (matches_is e l) (one_fails (eqb e.from q) (only true e.on l) (only false e.off l))
 
-  pub in_place_of : e.on < 256 → e.off < 256 → (met (as_eX e) q l ≡ true) ↔ ((d : Edge) × Memᴰ d (one_per_variable e) × (met d q l ≡ true))
+  pub in_place_of : e.on < 256 → e.off < 256 → (met (as_ex e) q l ≡ true) ↔ ((d : Edge) × Memᴰ d (one_per_variable e) × (met d q l ≡ true))
   unfolding one_per_variable
   in_place_of on off = (
     λ h. ⊎_elim (λ x. let r = there true on x in (r.0, Memᴰ.append_left (singles false) r.1, r.2))

@@ -47,6 +47,7 @@ module _ (c : List ℕ) where
   none_put_out : (ps : List Process) (at i : ℕ) (ys : List ℕ) → Fits (rows ps) (drop at c) → InBounds ps ys
       → ((q : Process) → Memᴰ q ps → bit q.outputs i ≡ false) → bit (outputs ps at c ys) i ≡ false
   unfolding outputs
+  none_put_out (p ∷ ps) at i [] f h off = elim h [ ]
   none_put_out [] at i ys f h off = empty i
   none_put_out (p ∷ ps) at i (y ∷ ys) f (also_in l h) off =
       bit_of_or (get_or c (row_at p at y) 0) (outputs ps (at + process_length p) c ys) i

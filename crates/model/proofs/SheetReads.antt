@@ -10,7 +10,7 @@ use borrow.Author.Tests.{le-ltb}
 use Rattle.model.specs.declared.Refusal.{Refusal}
 use Rattle.model.specs.declared.Refusal.TheVariants.{SheetTooShort, WrongMark, NoOwnerOrTooMany, BadAutomaton}
 use Rattle.model.specs.Sheet.{Architecture, Edge, Automaton, Sheet, ProperArchitecture, ProperAutomaton, ProperSheet}
-use Rattle.model.specs.Reading.{Reading, refused, proper, marked, tie_marked, edge_marked, PR, SY, ED, EX, EN}
+use Rattle.model.specs.Reading.{Reading, refused, proper, marked, tie_marked, edge_marked, SY, ED, EX, EN}
 use Rattle.model.specs.Reading.{read_end, read_edges, read_automaton, read_front, read_sheet, ◌then◌}
 use Rattle.model.specs.SheetFile.{states_bytes, edges_bytes, front_bytes, automaton_bytes, records_bytes, sheet_bytes}
 use Rattle.model.proofs.Refusing.{go}

@@ -11,7 +11,7 @@ use Rattle.model.specs.Mask.{if}
 use Rattle.model.specs.Sheet.{Architecture, Edge, Automaton, Sheet, ProperSheet}
 use Rattle.model.specs.Compose.{label, step}
 use Rattle.model.specs.RunGraph.{vertex, automaton_state, composed_state, met, Step}
-use Rattle.model.specs.Demands.{as_eX, one_per_variable, without_unless, plain}
+use Rattle.model.specs.Demands.{as_ex, one_per_variable, without_unless, plain}
 use Rattle.model.proofs.OnePerVariable.{in_place_of, same_end}
 
 -- the masks of an edge are of 8 variables at most
@@ -31,19 +31,19 @@ module _ (q l : ℕ) where
   abbrev in_place : Bool → Edge → List Edge
   in_place unless e = if unless (one_per_variable e) (e ∷ [])
 
-  as_ex : (e : Edge) → e.unless ≡ true → met e q l ≡ met (as_eX e) q l
-  as_ex e kind = ap (λ (unless : Bool). met (record { from = e.from; to = e.to; on = e.on; off = e.off; unless = unless }) q l) kind
+  as_ex_lem : (e : Edge) → e.unless ≡ true → met e q l ≡ met (as_ex e) q l
+  as_ex_lem e kind = ap (λ (unless : Bool). met (record { from = e.from; to = e.to; on = e.on; off = e.off; unless = unless }) q l) kind
 
   placed : (e : Edge) (unless : Bool) → e.unless ≡ unless → Known e → met e q l ≡ true → Leads (in_place unless e) e.to
   unfolding if
   placed e true kind known h =
-      let r = (in_place_of e q l known.on known.off).0 (sym (as_ex e kind) ∙ h) in
+      let r = (in_place_of e q l known.on known.off).0 (sym (as_ex_lem e kind) ∙ h) in
       record { edge = r.0; there = r.1; is_met = r.2; end = sym (same_end e q l r.0 r.1) }
   placed e false kind known h = record { edge = e; there = Memᴰ.head refl; is_met = h; end = refl }
 
   replaced : (e : Edge) (unless : Bool) → e.unless ≡ unless → Known e → (d : Edge) → Memᴰ d (in_place unless e) → met d q l ≡ true → (met e q l ≡ true) × (d.to ≡ e.to)
   unfolding if
-  replaced e true kind known d m h = (as_ex e kind ∙ (in_place_of e q l known.on known.off).1 (d, m, h), same_end e q l d m)
+  replaced e true kind known d m h = (as_ex_lem e kind ∙ (in_place_of e q l known.on known.off).1 (d, m, h), same_end e q l d m)
   replaced e false kind known d m h =
       let same : d ≡ e = Memᴰ.eq_of_singleton m in
       (ap (λ (z : Edge). met z q l) (sym same) ∙ h, ap (λ (z : Edge). z.to) same)
@@ -54,6 +54,7 @@ module _ (q l : ℕ) where
 
   all_placed : (es : List Edge) → AllKnown es → (e : Edge) → Memᴰ e es → met e q l ≡ true → Leads (without_unless es) e.to
   unfolding without_unless
+  all_placed [] known e m h = elim m [ ]
   all_placed (f ∷ es) known e (Memᴰ.head same) h =
       let r = placed f f.unless refl (known f (Memᴰ.head refl)) (ap (λ (z : Edge). met z q l) (sym same) ∙ h) in
       record { edge = r.edge; there = Memᴰ.append_left (without_unless es) r.there; is_met = r.is_met; end = ap (λ (z : Edge). z.to) same ∙ r.end }

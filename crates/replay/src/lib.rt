@@ -1,4 +1,5 @@
 // What the annotating program prints of a run: its lengths, its start, and a line for each step with the vertex behind it. The steps are taken again.
+#![tactic(auto)]
 ghost use Rattle.std.specs.Prelude.{◌≡◌, ◌++◌, ◌+◌, ◌*◌, ◌^◌, ◌<◌, ◌≤◌, length, take};
 ghost use Rattle.model.specs.Choice.{chosen, IsTables};
 ghost use Rattle.architecture.specs.Struct.{IsProper as IsProperArchitecture, architecture_of};
@@ -19,7 +20,7 @@ use sheet::Sheet;
 use template::put_filled;
 
 // Where the text ends, and the vertex that the run has come to.
-#[derive(Drop)]
+#[derive(Clone, Copy)]
 struct Progress {
     at: usize,
     automaton: AutomatonState,

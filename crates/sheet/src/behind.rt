@@ -12,7 +12,7 @@ use automaton::{Automaton, Edge};
 use model::{AutomatonState, Refusal, Reply};
 
 // Where the answer is a refusal, the automaton is what was read before it.
-#[derive(Drop)]
+#[derive(Clone, Copy)]
 pub struct AutomatonRead {
     pub answer: Reply,
     pub automaton: Automaton,

@@ -1,4 +1,5 @@
 // The sheet file: its marks, and reading it into a struct up to its first fault in file order.
+#![tactic(auto)]
 ghost use Rattle.std.specs.Prelude.{◌≡◌, ◌≤◌, length};
 ghost use Rattle.model.specs.declared.Reply.{Reply};
 ghost use Rattle.model.specs.Reading.{marked, read_front, read_sheet};
@@ -37,14 +38,14 @@ pub const EX: [u8; 2] = *b"EX";
 pub const EN: [u8; 2] = *b"EN";
 
 // An architecture with its state bounds, and an automaton.
-#[derive(Drop)]
+#[derive(Clone, Copy)]
 pub struct Sheet {
     pub architecture: Architecture,
     pub automaton: Automaton,
 }
 
 // Where the answer is a refusal, the sheet is what was read before it.
-#[derive(Drop)]
+#[derive(Clone, Copy)]
 pub struct Reading {
     pub answer: Reply,
     pub sheet: Sheet,
@@ -52,7 +53,7 @@ pub struct Reading {
 
 // AR, the PR and PM and the SY records: where the record behind them begins, the mask of all outputs, and the count of composed states.
 // Where the answer is a refusal, these are of what was read before it.
-#[derive(Drop)]
+#[derive(Clone, Copy)]
 pub struct FrontRead {
     pub answer: Reply,
     pub architecture: Architecture,

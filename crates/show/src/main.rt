@@ -1,5 +1,6 @@
 // Shows what the sheet in a file or on standard input says, a line for each record and then the counts; or `refused` and the number, with the cause on
 // standard error.
+#![tactic(auto)]
 ghost use Rattle.std.specs.Prelude.{◌≡◌, ◌≤◌, length};
 ghost use Rattle.template.specs.Holds.{Holds};
 ghost use Rattle.show.specs.Shown.{shown};

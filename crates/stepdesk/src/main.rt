@@ -1,5 +1,6 @@
 // Steps the tables of a book on a desk: prints the start, and for each direction on standard input the label and the states after it, or its refusal. A
 // direction is a word of one or two hexadecimal digits. Each line is written as soon as its direction is read, so directions may be typed.
+#![tactic(auto)]
 ghost use Rattle.std.specs.Prelude.{◌≡◌, ◌≤◌, length, false};
 ghost use Rattle.template.specs.Holds.{Holds};
 ghost use Rattle.stepdesk.specs.Printed.{opening, line_for};
@@ -17,7 +18,7 @@ const SHEET_ROOM: usize = 434;
 const BOOK_ROOM: usize = 339;
 
 // The desk, the word that is being read, and whether more is to be read.
-#[derive(Drop)]
+#[derive(Clone, Copy)]
 struct Session {
     desk: Desk,
     word: Word,

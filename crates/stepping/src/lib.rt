@@ -1,4 +1,5 @@
 // What the desk program reads and prints: words of hexadecimal digits, a line for the start, and one for each direction.
+#![tactic(auto)]
 ghost use Rattle.std.specs.Prelude.{◌≡◌, ◌^◌, ◌<◌, ◌≤◌, length};
 ghost use Rattle.model.specs.Choice.{chosen, IsTables};
 ghost use Rattle.model.specs.Desk.{on_desk};
@@ -16,7 +17,7 @@ use template::put_filled;
 
 // ---- words
 // A word that is being read: how many digits it has, and their value. Three digits stand for a word that is no direction.
-#[derive(Drop)]
+#[derive(Clone, Copy)]
 pub struct Word {
     pub digits: u8,
     pub value: u8,

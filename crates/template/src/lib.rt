@@ -1,5 +1,6 @@
 // Texts written behind what was written: bytes, numbers, and templates with holes that numbers fill. Each function answers the index behind what it
 // wrote.
+#![tactic(auto)]
 ghost use Rattle.std.specs.Prelude.{◌≡◌, ◌∷◌, [], ◌+◌, ◌/◌, ◌%◌, ◌<◌, ◌≤◌, length, get_or};
 ghost use Rattle.model.specs.Mask.{if};
 ghost use Rattle.append.specs.Appends.{Appends};

@@ -20,6 +20,7 @@ Subset xs ys = (x : ℕ) → Memᴰ x xs → Memᴰ x ys
 
 -- ys without the place where x stands
 remove : {x : ℕ} {ys : List ℕ} → Memᴰ x ys → List ℕ
+remove {ys = []} m = elim m [ ]
 remove {ys = y ∷ ys} (mathlib.Core.List.Memᴰ.head e) = ys
 remove {ys = y ∷ ys} (mathlib.Core.List.Memᴰ.tail m) = y ∷ remove m
 
@@ -140,6 +141,7 @@ filter_sound p x (y ∷ ys) m = by (p y) refl m (λ i. filter_sound p x ys i)
 
 pub filter_complete : {A : Type 0} (p : A → Bool) (x : A) (xs : List A) → Memᴰ x xs → p x ≡ true → Memᴰ x (filter p xs)
 unfolding filter put
+filter_complete p x [] m e = elim m [ ]
 filter_complete p x (y ∷ ys) (mathlib.Core.List.Memᴰ.head q) e = rw (sym (ap p q) ∙ e) (mathlib.Core.List.Memᴰ.head q)
 filter_complete p x (y ∷ ys) (mathlib.Core.List.Memᴰ.tail m) e = by (p y) (filter_complete p x ys m e)
   where
@@ -193,6 +195,7 @@ member_sound x (y ∷ ys) e = by (eqb x y) refl e (λ i. member_sound x ys i)
 
 pub member_complete : (x : ℕ) (xs : List ℕ) → Memᴰ x xs → member x xs ≡ true
 unfolding member
+member_complete x [] m = elim m [ ]
 member_complete x (y ∷ ys) (mathlib.Core.List.Memᴰ.head e) = rw (eq-eqb x y e)
 member_complete x (y ∷ ys) (mathlib.Core.List.Memᴰ.tail m) = rw (member_complete x ys m) (or-true (eqb x y))
 
@@ -241,6 +244,7 @@ greatest_attained h (x ∷ xs) k e = by (max_cases (h x) (greatest h xs) (suc k)
 
 pub greatest_above : (h : ℕ → ℕ) (x : ℕ) (xs : List ℕ) → Memᴰ x xs → h x ≤ greatest h xs
 unfolding greatest
+greatest_above h x [] m = elim m [ ]
 greatest_above h x (y ∷ ys) (mathlib.Core.List.Memᴰ.head e) = omega (arith, ap h e)
 greatest_above h x (y ∷ ys) (mathlib.Core.List.Memᴰ.tail m) = omega (arith, greatest_above h x ys m)
 

@@ -1,4 +1,5 @@
 // Ties: tied processes share one table.
+#![tactic(auto)]
 ghost use Rattle.std.specs.Prelude.{◌≡◌, ◌+◌, ◌/◌, ◌%◌, ◌^◌, ◌<◌, ◌≤◌, min, max, length, take};
 ghost use Rattle.theory.specs.Lists.{from, same};
 ghost use Rattle.model.specs.Sheet.{ProperTie};

@@ -1,4 +1,5 @@
 // An annotation in a file: words of 16 bits, the low byte first. Each function answers how many elements it put at the front of the buffer.
+#![tactic(auto)]
 ghost use Rattle.std.specs.Prelude.{◌≡◌, ◌∷◌, [], ◌+◌, ◌*◌, ◌≤◌, length};
 ghost use Rattle.append.specs.Appends.{Appends};
 ghost use Rattle.words.specs.Words.{words_of, bytes_of};

@@ -1,4 +1,5 @@
 // Writing a sheet: an automaton's records, and EN, behind the records before AU. Each function answers the index behind what it wrote.
+#![tactic(auto)]
 ghost use Rattle.std.specs.Prelude.{◌++◌, ◌+◌, ◌≤◌, length};
 ghost use Rattle.model.specs.Reading.{EN as markEN};
 ghost use Rattle.model.specs.SheetFile.{edge_mark, edge_bytes, edges_bytes, states_bytes, automaton_bytes};
