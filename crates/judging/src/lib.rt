@@ -1,5 +1,6 @@
 // Judging a book with an annotation, and annotating a book, once the sheet is read.
 #![tactic(auto)]
+
 ghost use Rattle.std.specs.Prelude.{◌≡◌, ◌*◌, ◌≤◌, length, take};
 ghost use Rattle.model.specs.declared.Finding.TheVariants.{No};
 ghost use Rattle.model.specs.declared.Verdict.{Verdict as Answered};

@@ -9,67 +9,67 @@ use Rattle.append.proofs.Appended.{append_none, append_copy, append_length, appe
 use Rattle.judging.proofs.copy.Statement.{statement}
 use Rattle.judging.proofs.copy.Tie as tie
 
-abbrev invariant-loop : tie.invariant-loop
+abbrev invariant-loop : tie.invariant-loop-k
 invariant-loop annotation₀ numbers n k₀ annotation k = (k ≤ n) × Appends annotation₀ 0 (take k numbers) k annotation
 
-abbrev decreases-loop : tie.decreases-loop
+abbrev decreases-loop : tie.decreases-loop-k
 decreases-loop annotation₀ numbers n k₀ annotation k = n - k
 
 -- `while k < n`
-loop-holds : tie.Need-loop-init invariant-loop decreases-loop
+loop-holds : tie.Need-loop-k-init invariant-loop decreases-loop
 loop-holds c = (omega arith, append_none c.args.annotation.now 0)
 
 -- `annotation[k] = numbers[k]`
-mul-annotation : tie.Need-overflow-mul-annotation invariant-loop decreases-loop
+mul-annotation : tie.Need-offset_bounds-numbers-k invariant-loop decreases-loop
 mul-annotation c = omega arith
 
 -- `annotation[k] = numbers[k]`
-shared-slice-read-annotation : tie.Need-shared-slice-read-annotation invariant-loop decreases-loop
+shared-slice-read-annotation : tie.Need-bounds-numbers-k invariant-loop decreases-loop
 shared-slice-read-annotation c = omega arith
 
 -- `annotation[k] = numbers[k]`
-mul-annotation-2 : tie.Need-overflow-mul-annotation-2 invariant-loop decreases-loop
+mul-annotation-2 : tie.Need-offset_bounds-annotation-k invariant-loop decreases-loop
 mul-annotation-2 c = omega arith
 
 -- the loop's head; the function is entered right before it
-abbrev head : tie.After-shared-slice-known invariant-loop decreases-loop → tie.At-loop invariant-loop decreases-loop
+abbrev head : tie.After-shared_slice_known-1 invariant-loop decreases-loop → tie.At-loop-k invariant-loop decreases-loop
 head c = c.before.before
 
 -- the buffer keeps its length
-long : (c : tie.At-loop invariant-loop decreases-loop) → length c.loop.annotation ≡ length c.before.args.annotation.now
-long c = append_length c.loop.invariant.1 (omega (arith, c.loop.invariant.0, c.before.requires.0))
+long : (c : tie.At-loop-k invariant-loop decreases-loop) → length c.loop-k.annotation ≡ length c.args.annotation.now
+long c = append_length c.loop-k.invariant.1 (omega (arith, c.loop-k.invariant.0, c.requires.0))
 
 -- `annotation[k] = numbers[k]`
-slice-write-annotation : tie.Need-slice-write-annotation invariant-loop decreases-loop
-slice-write-annotation c = omega (arith, long (head c), c.before.loop-test.true, (head c).before.requires.0)
+slice-write-annotation : tie.Need-bounds-annotation-k invariant-loop decreases-loop
+slice-write-annotation c = omega (arith, long (head c), c.loop-k-test.true, (head c).requires.0)
 
 -- `k += 1`
-add-k : tie.Need-overflow-add-k invariant-loop decreases-loop
+add-k : tie.Need-overflow_add-k invariant-loop decreases-loop
 add-k c = omega arith
 
 -- `while k < n`
-loop-less : tie.Need-loop-smaller invariant-loop decreases-loop
+loop-less : tie.Need-loop-k-smaller invariant-loop decreases-loop
 loop-less c = omega arith
 
 -- `while k < n`
-loop-again : tie.Need-loop-preserved invariant-loop decreases-loop
+loop-again : tie.Need-loop-k-preserved invariant-loop decreases-loop
 loop-again c =
     let b = (head c).before in
-    let l = (head c).loop in
-    let h = c.before.loop-test.true in
-    (omega (arith, h), append_copy b.args.numbers.now l.k (omega (arith, h, b.pre.1)) l.inv.1 (slice-write-annotation c))
+    let l = (head c).loop-k in
+    let h = c.loop-k-test.true in
+    (omega (arith, h), append_copy b.args.numbers.now l.k (omega (arith, h, b.requires.1)) l.invariant.1 (slice-write-annotation c))
 
 -- `while k < n`
-same_length : tie.Need-same-length invariant-loop decreases-loop
+same_length : tie.Need-shape_of-annotation invariant-loop decreases-loop
 same_length c = long c.before
 
 -- `while k < n`
 returns : tie.Need-returns invariant-loop decreases-loop
 unfolding front
 returns c =
-    let l = c.before.loop in
-    let a = c.before.before.args in
-    append_front (λ (k : ℕ). take k a.numbers.now) l.k a.n (omega (arith, c.loop-test.false, l.invariant.0)) l.invariant.1
+    let l = c.loop-k in
+    let a = c.args in
+    append_front (λ (k : ℕ). take k a.numbers.now) l.k a.n (omega (arith, c.loop-k-test.false, l.invariant.0)) l.invariant.1
 
 pub copy_spec : {M : Type 1} → statement M
 copy_spec =

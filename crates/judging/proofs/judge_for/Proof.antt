@@ -11,54 +11,54 @@ use Rattle.judging.proofs.judge_for.Statement.{statement}
 use Rattle.judging.proofs.judge_for.Tie as tie
 
 -- `let read = book::read_for(a, book)`
-read-for-requires : tie.Need-read-for-requires
-read-for-requires c κs = architecture_proper _ c.before.before.before.requires
+read-for-requires : tie.Need-read_for-read-requires
+read-for-requires c κs = architecture_proper _ c.requires
 
 -- `Reply::Refused(refusal) => Verdict::Refused(refusal)`
-enum-known-answer : tie.Need-enum-known-answer
+enum-known-answer : tie.Need-enum_known-answer
 enum-known-answer c = search rules
 
 -- `let tables = read.tables`
-enum_told : tie.Need-enum-told
+enum_told : tie.Need-enum_told-1
 enum_told c = search rules
 
 -- `judge_tables(sheet, &tables, annotation)`
-slice-aggregate-judge-tables : tie.Need-slice-aggregate-judge-tables
+slice-aggregate-judge-tables : tie.Need-slice_bounds-judge_tables-end
 slice-aggregate-judge-tables c = search rules
 
 -- where the function is entered
-abbrev entry : tie.After-read-for → tie.Start
+abbrev entry : tie.After-read_for-read → tie.Start
 entry r = r.before.before.before.before
 
 -- the choice of the book
-choice : (r : tie.After-read-for) → r.read-for.result.answer ≡ Reply.Done → let a = (entry r).args in
-    Chose (architecture_of a.sheet.architecture) a.book.now r.read-for.result.tables
-choice r e = was_read _ _ r.read-for.result r.read-for.ensures e
+choice : (r : tie.After-read_for-read) → r.read_for-read.result.answer ≡ Reply.Done → let a = (entry r).args in
+    Chose (architecture_of a.sheet.architecture) a.book.now r.read_for-read.result.tables
+choice r e = was_read _ _ r.read_for-read.result r.read_for-read.ensures e
 
 -- `judge_tables(sheet, &tables, annotation)`
-judge-tables-requires : tie.Need-judge-tables-requires
+judge-tables-requires : tie.Need-judge_tables-requires
 judge-tables-requires c κs =
     let t = c.before.before in
-    let r = t.before.before in
-    ((entry r).requires, (choice r t.enum_told.given.1).are_tables)
+    let r = t.before in
+    ((entry r).requires, (choice r t.in-Done.is).are_tables)
 
 -- `match answer`
-returns : tie.Need-returns
+returns : tie.Need-returns-in-Refused
 unfolding book_for ◌then◌ judged
 returns c =
-    let r = c.before.before.before in
+    let r = c.before in
     let a = (entry r).args in
-    rw (was_refused (architecture_of a.sheet.architecture) a.book.now r.read-for.result r.read-for.ensures c.before.answer.given.1)
+    rw (was_refused (architecture_of a.sheet.architecture) a.book.now r.read_for-read.result r.read_for-read.ensures c.in-Refused.is)
 
 -- `match answer`
-returns-2 : tie.Need-returns-2
+returns-2 : tie.Need-returns-in-Done
 unfolding book_for ◌then◌
 returns-2 c =
     let t = c.before.before.before in
-    rw (choice t.before.before t.enum_told.given.1).is_read c.judge-tables.ensures
+    rw (choice t.before t.in-Done.is).is_read c.judge_tables.ensures
 
-pub judge-for-spec : {M : Type 1} → statement M
-judge-for-spec =
+pub judge_for_spec : {M : Type 1} → statement M
+judge_for_spec =
     tie.close
     (tie.spec
     read-for-requires
