@@ -1,7 +1,6 @@
 -- `ties::packed_value` meets its contract: whether the word is even decides what it says, and so the packed value.
 use mathlib.Core.Path.{sym, ◌∙◌}
 use borrow.Author.Rules.{rules}
-use Rattle.model.specs.Mask.{pack}
 use Rattle.ties.proofs.KindValues.{packed_output, packed_next}
 use Rattle.ties.proofs.packed_value.Statement.{statement}
 use Rattle.ties.proofs.packed_value.Tie as tie
