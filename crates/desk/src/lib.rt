@@ -1,5 +1,6 @@
 // A desk to step the tables, once the sheet is read: made fresh, and moved on by one direction.
 #![tactic(auto)]
+
 ghost use Rattle.std.specs.Prelude.{◌≡◌};
 ghost use Rattle.model.specs.declared.Refusal.TheVariants.{BadDirectionOrDesk};
 ghost use Rattle.model.specs.declared.Shown.{Shown as Answered};

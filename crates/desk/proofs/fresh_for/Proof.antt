@@ -16,7 +16,7 @@ showing-requires c κs = search rules
 
 -- `showing(a, desk, ..)`
 returns : tie.Need-returns
-returns c = c.showing.ensures ∙ ap (λ (t : Composed). showing c.before.before.args.desk t) c.before.initial.ensures.0
+returns c = c.showing.ensures ∙ ap (λ (t : Composed). showing c.args.desk t) c.initial.ensures.0
 
-pub fresh-for-spec : {M : Type 1} → statement M
-fresh-for-spec = tie.close (tie.spec initial-requires showing-requires returns)
+pub fresh_for_spec : {M : Type 1} → statement M
+fresh_for_spec = tie.close (tie.spec initial-requires showing-requires returns)

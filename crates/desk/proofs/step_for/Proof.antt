@@ -10,15 +10,15 @@ use Rattle.desk.proofs.step_for.Statement.{statement}
 use Rattle.desk.proofs.step_for.Tie as tie
 
 -- where the function is entered
-abbrev entry : tie.After-read-for → tie.Start
+abbrev entry : tie.After-read_for-read → tie.Start
 entry r = r.before.before
 
 -- `let read = book::read_for(a, book)`
-read-for-requires : tie.Need-read-for-requires
+read-for-requires : tie.Need-read_for-read-requires
 read-for-requires c κs = search rules
 
 -- `Reply::Refused(refusal) => refused(refusal, desk)`
-enum-known-answer : tie.Need-enum-known-answer
+enum-known-answer : tie.Need-enum_known-answer
 enum-known-answer c = search rules
 
 -- `Reply::Refused(refusal) => refused(refusal, desk)`
@@ -26,42 +26,40 @@ refused-requires : tie.Need-refused-requires
 refused-requires c κs = search rules
 
 -- `let tables = read.tables`
-enum_told : tie.Need-enum-told
+enum_told : tie.Need-enum_told-1
 enum_told c = search rules
 
 -- `step_tables(a, &tables, desk, direction)`
-slice-aggregate-step-tables : tie.Need-slice-aggregate-step-tables
+slice-aggregate-step-tables : tie.Need-slice_bounds-step_tables-end
 slice-aggregate-step-tables c = search rules
 
 -- the choice of the book
-choice : (r : tie.After-read-for) → r.read-for.result.answer ≡ Reply.Done → Chose (architecture_of (entry r).args.a) (entry r).args.book.now r.read-for.result.tables
-choice r e = was_read _ _ r.read-for.result r.read-for.ensures e
+choice : (r : tie.After-read_for-read) → r.read_for-read.result.answer ≡ Reply.Done → Chose (architecture_of (entry r).args.a) (entry r).args.book.now r.read_for-read.result.tables
+choice r e = was_read _ _ r.read_for-read.result r.read_for-read.ensures e
 
 -- `step_tables(a, &tables, desk, direction)`
-step-tables-requires : tie.Need-step-tables-requires
+step-tables-requires : tie.Need-step_tables-requires
 step-tables-requires c κs =
-    let t = c.before.before in
-    let r = t.before.before in
-    ((entry r).requires, (choice r t.enum_told.given.1).are_tables)
+    let r = c.before.before.before in
+    ((entry r).requires, (choice r c.in-Done.is).are_tables)
 
 -- `match answer`
-returns : tie.Need-returns
+returns : tie.Need-returns-in-Refused
 unfolding choice_for ◌then◌ step_by
 returns c =
-    let k = c.before.before in
-    let r = k.before.before in
+    let r = c.before.before in
     let b = (entry r).args in
-    rw (was_refused (architecture_of b.a) b.book.now r.read-for.result r.read-for.ensures k.answer.given.1) c.refused.ensures
+    rw (was_refused (architecture_of b.a) b.book.now r.read_for-read.result r.read_for-read.ensures c.in-Refused.is) c.refused.ensures
 
 -- `match answer`
-returns-2 : tie.Need-returns-2
+returns-2 : tie.Need-returns-in-Done
 unfolding choice_for ◌then◌
 returns-2 c =
-    let t = c.before.before.before in
-    rw (choice t.before.before t.enum_told.given.1).is_read c.step-tables.ensures
+    let r = c.before.before.before.before in
+    rw (choice r c.in-Done.is).is_read c.step_tables.ensures
 
-pub step-for-spec : {M : Type 1} → statement M
-step-for-spec =
+pub step_for_spec : {M : Type 1} → statement M
+step_for_spec =
     tie.close
     (tie.spec
     read-for-requires

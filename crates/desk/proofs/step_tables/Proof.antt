@@ -2,7 +2,8 @@
 use mathlib.Core.Path.{◌≡◌, sym, ap₂, ◌∙◌}
 use mathlib.Core.Bool.{false}
 use Prim.Native.Nat.{ℕ}
-use lib.ListN.{length, length-map}
+use native.Mathlib.Omega.{arith}
+use lib.ListN.{length}
 use borrow.Author.Rules.{rules}
 use Rattle.model.specs.declared.Desk.{Desk}
 use Rattle.model.specs.declared.Shown.{Shown}
@@ -20,7 +21,7 @@ entry m = m.before.before.before
 
 -- four places, as the type has it
 long : (b : tie.Start) → length b.args.desk.states ≡ 4
-long b = sym (length-map b.args.desk.states _) ∙ b.well_formed_lem.1.1.0.1.1.0.1.0.1
+long b = omega (arith, b.well_formed)
 
 -- `if misfits(a, t, direction)`
 misfits-requires : tie.Need-misfits-requires
@@ -31,44 +32,44 @@ refused-requires : tie.Need-refused-requires
 refused-requires c κs = search rules
 
 -- `return refused(Refusal::BadDirectionOrDesk, desk)`
-returns : tie.Need-returns
+returns : tie.Need-returns-then-misfits
 returns c =
     let m = c.before.before in
     let b = entry m in
-    c.refused.ensures ∙ refused_due b.args.a b.pre.0 b.args.tables.now b.pre.1 b.args.desk (long b) b.args.direction (sym m.misfits.ensures ∙ c.before.if1.true)
+    c.refused.ensures ∙ refused_due b.args.a b.requires.0 b.args.tables.now b.requires.1 b.args.desk (long b) b.args.direction (sym m.misfits.ensures ∙ c.if-misfits.true)
 
 -- nothing misfits
-fits : (c : tie.Else1) → let a = (entry c.before).args in
+fits : (c : tie.Else-misfits) → let a = (entry c.before).args in
     desk_fault (architecture_of a.a) (composed_of a.a.processes (record { states = a.desk.states; environment = a.desk.environment })) a.direction ≡ false
-fits c = sym c.before.misfits.ensures ∙ c.if1.false
+fits c = sym c.misfits.ensures ∙ c.if-misfits.false
 
 -- `let next = t.step(a, tables, direction)`
-step-requires : tie.Need-step-requires
+step-requires : tie.Need-step-next-requires
 step-requires c κs =
     let b = entry c.before in
-    (b.pre.0, ((is_state b.args.a b.pre.0 b.args.tables.now b.pre.1 b.args.desk (long b) b.args.direction (fits c)).states_in, b.pre.1))
+    (b.requires.0, ((is_state b.args.a b.requires.0 b.args.tables.now b.requires.1 b.args.desk (long b) b.args.direction (fits c)).states_in, b.requires.1))
 
 -- `answer: Shown::Label(next.label(a, tables))`
 label-requires : tie.Need-label-requires
 label-requires c κs =
     let m = c.before.before in
     let b = entry m in
-    let next = new_state b.args.a b.pre.0 b.args.tables.now b.pre.1 b.args.desk (long b) b.args.direction (fits c.before) c.step.result
-    c.step.ensures.1 c.step.ensures.0 in
-    (b.pre.0, (next.states_in, chosen_long (architecture_of b.args.a) b.args.tables.now b.pre.1))
+    let next = new_state b.args.a b.requires.0 b.args.tables.now b.requires.1 b.args.desk (long b) b.args.direction (fits c.before) c.step-next.result
+    c.step-next.ensures.1 c.step-next.ensures.0 in
+    (b.requires.0, (next.states_in, chosen_long (architecture_of b.args.a) b.args.tables.now b.requires.1))
 
 -- `desk: showing(a, desk, next)`
 showing-requires : tie.Need-showing-requires
 showing-requires c κs = search rules
 
 -- `Stepped { .. }`
-returns-2 : tie.Need-returns-2
+returns-2 : tie.Need-returns
 returns-2 c =
     let s = c.before.before in
     let b = entry s.before.before in
-    ap₂ (λ (l : ℕ) (k : Desk). record { answer = Shown.Label l; desk = k }) c.before.label.ensures c.showing.ensures
-    ∙ step_due b.args.a b.pre.0 b.args.tables.now b.pre.1 b.args.desk (long b) b.args.direction (fits s.before) s.step.result
-    s.step.ensures.1 s.step.ensures.0
+    ap₂ (λ (l : ℕ) (k : Desk). record { answer = Shown.Label l; desk = k }) c.label.ensures c.showing.ensures
+    ∙ step_due b.args.a b.requires.0 b.args.tables.now b.requires.1 b.args.desk (long b) b.args.direction (fits s.before) s.step-next.result
+    s.step-next.ensures.1 s.step-next.ensures.0
 
-pub step-tables-spec : {M : Type 1} → statement M
-step-tables-spec = tie.close (tie.spec misfits-requires refused-requires returns step-requires label-requires showing-requires returns-2)
+pub step_tables_spec : {M : Type 1} → statement M
+step_tables_spec = tie.close (tie.spec misfits-requires refused-requires returns step-requires label-requires showing-requires returns-2)
