@@ -1,5 +1,6 @@
 // How long the books and the annotations of a proper sheet are.
 #![tactic(auto)]
+
 ghost use Rattle.std.specs.Prelude.{◌≡◌, ◌≤◌};
 ghost use Rattle.model.specs.Book.{book_length};
 ghost use Rattle.model.specs.RunGraph.{vertices as verticesOf};

@@ -11,28 +11,28 @@ use Rattle.sizes.proofs.vertices.Statement.{statement}
 use Rattle.sizes.proofs.vertices.Tie as tie
 
 -- `automaton.states as usize * a.composed_states()`
-cast-result : tie.Need-overflow-cast-result
+cast-result : tie.Need-overflow_cast-result
 cast-result c = search rules
 
 -- `automaton.states as usize * a.composed_states()`
-composed-states-requires : tie.Need-composed-states-requires
+composed-states-requires : tie.Need-composed_states-requires
 composed-states-requires c κs = search rules
 
-module _ (c : tie.After-composed-states) where
+module _ (c : tie.After-composed_states) where
   abbrev entry : tie.Start
   entry = c.before.before.before.before
 
-  is-product : entry.args.sheet.automaton.states * c.composed-states.result ≡ vertices (sheet_of entry.args.sheet)
+  is-product : entry.args.sheet.automaton.states * c.composed_states.result ≡ vertices (sheet_of entry.args.sheet)
   unfolding vertices automaton_of
-  is-product = ap (λ (n : ℕ). entry.args.sheet.automaton.states * n) c.composed-states.ensures
+  is-product = ap (λ (n : ℕ). entry.args.sheet.automaton.states * n) c.composed_states.ensures
 
 -- `automaton.states as usize * a.composed_states()`
-mul-result : tie.Need-overflow-mul-result
+mul-result : tie.Need-overflow_mul-result
 mul-result c = omega (arith, is-product c, vertices_few _ (entry c).requires.proper)
 
 -- `automaton.states as usize * a.composed_states()`
 returns : tie.Need-returns
 returns c = (is-product c, omega (arith, is-product c, vertices_few _ (entry c).requires.proper))
 
-pub vertices-spec : {M : Type 1} → statement M
-vertices-spec = tie.close (tie.spec cast-result composed-states-requires mul-result returns)
+pub vertices_spec : {M : Type 1} → statement M
+vertices_spec = tie.close (tie.spec cast-result composed-states-requires mul-result returns)
