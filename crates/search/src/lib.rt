@@ -1,5 +1,6 @@
 // The search for the first choice that keeps the sheet: one group of tied entries is settled at a time. The large work arrays are lent from the top, and what no partial choice changes is one table.
 #![tactic(auto)]
+
 ghost use Rattle.std.specs.Prelude.{◌≡◌, ◌+◌, ◌<◌, ◌≤◌, length, get_or, take};
 ghost use Rattle.model.specs.Choice.{entries as entries_of};
 ghost use Rattle.architecture.specs.Struct.{IsProper, architecture_of};

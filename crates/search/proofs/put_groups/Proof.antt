@@ -52,50 +52,50 @@ module _ (a : Architecture) (z : IsProper a) (leaders followers groups : List �
 
 -- ---- positions: behind each part that is copied, and behind each that is filled
 abbrev Copied : Type 0
-Copied = tie.After-words2
+Copied = tie.After-words
 
-abbrev leaders-copied : Copied → tie.After-words
+abbrev leaders-copied : Copied → tie.After-words-after_leaders
 leaders-copied k = k.before.before.before.before.before
 
-abbrev followers-filled : Copied → tie.After-fill-followers
+abbrev followers-filled : Copied → tie.After-fill_followers
 followers-filled k = (leaders-copied k).before.before.before
 
-abbrev leaders-filled : tie.After-fill-followers → tie.After-fill-leaders
+abbrev leaders-filled : tie.After-fill_followers → tie.After-fill_leaders
 leaders-filled f = f.before.before.before
 
-abbrev entered : tie.After-fill-leaders → tie.Start
+abbrev entered : tie.After-fill_leaders → tie.Start
 entered f = f.before.before.before
 
 -- `ties::fill_leaders(&mut leaders, a)`
-fill-leaders-requires : tie.Need-fill-leaders-requires
+fill-leaders-requires : tie.Need-fill_leaders-requires
 fill-leaders-requires c κs = search rules
 
 -- `ties::fill_followers(&mut followers, &leaders, n)`
-fill-followers-requires : tie.Need-fill-followers-requires
+fill-followers-requires : tie.Need-fill_followers-requires
 fill-followers-requires c κs =
     let f = c.before.before in
     let b = entered f in
-    let led = leaders_inside b.args.a b.pre.0 f.fill-leaders.new.0 f.fill-leaders.ensures.0 in
-    ((refl, f.fill-leaders.ensures.1, omega (arith, b.pre.1.1, entries_few b.args.a b.pre.0)), λ k h. led k (omega (arith, b.pre.1.1)))
+    let led = leaders_inside b.args.a b.requires.0 f.fill_leaders.new.leaders f.fill_leaders.ensures.0 in
+    ((refl, f.fill_leaders.ensures.1, omega (arith, b.requires.1.1, entries_few b.args.a b.requires.0)), λ k h. led k (omega (arith, b.requires.1.1)))
 
 -- `let after_leaders = append::words(groups, 0, &leaders)`
-slice-aggregate-words : tie.Need-slice-aggregate-words
+slice-aggregate-words : tie.Need-slice_bounds-words-end
 slice-aggregate-words c = search rules
 
 -- `let after_leaders = append::words(groups, 0, &leaders)`
-words-requires : tie.Need-words-requires
+words-requires : tie.Need-words-after_leaders-requires
 words-requires c κs = search rules
 
 -- `append::words(groups, after_leaders, &followers)`
-slice-aggregate-words-2 : tie.Need-slice-aggregate-words-2
+slice-aggregate-words-2 : tie.Need-slice_bounds-words-end-2
 slice-aggregate-words-2 c = search rules
 
 -- `append::words(groups, after_leaders, &followers)`
-words-requires-2 : tie.Need-words-requires-2
+words-requires-2 : tie.Need-words-requires
 words-requires-2 c κs = search rules
 
 -- `append::words(groups, after_leaders, &followers)`
-same_length : tie.Need-same-length
+same_length : tie.Need-shape_of-groups
 same_length c = search rules
 
 -- `append::words(groups, after_leaders, &followers)`
@@ -105,15 +105,15 @@ returns c =
     let f = followers-filled k in
     let l = leaders-filled f in
     let b = entered l in
-    let p = (leaders-copied k).words.ensures in
-    let q = k.words2.ensures in
-    let long : length k.words2.new.0 ≡ 544 = k.words2.auto.0 ∙ (leaders-copied k).words.auto.0 ∙ b.pre.1.0 in
-    let whole = sym (take_all k.words2.result k.words2.new.0 (omega (arith, p.ends, q.ends, l.fill-leaders.ensures.1, f.fill-followers.ensures.1))) ∙ (append_more p q).is in
-    are-grouped b.args.a b.pre.0 l.fill-leaders.last.0 f.fill-followers.last.0 k.words2.new.0 l.fill-leaders.ensures.1 whole long l.fill-leaders.ensures.0
-    (subst (λ (n : ℕ). FollowersAre n l.fill-leaders.last.0 f.fill-followers.last.0) b.pre.1.1 f.fill-followers.ensures.0)
+    let p = (leaders-copied k).words-after_leaders.ensures in
+    let q = k.words.ensures in
+    let long : length k.words.new.words ≡ 544 = k.words.auto.words ∙ (leaders-copied k).words-after_leaders.auto.words ∙ b.requires.1.0 in
+    let whole = sym (take_all k.words.result k.words.new.words (omega (arith, p.ends, q.ends, l.fill_leaders.ensures.1, f.fill_followers.ensures.1))) ∙ (append_more p q).is in
+    are-grouped b.args.a b.requires.0 l.fill_leaders.new.leaders f.fill_followers.new.followers k.words.new.words l.fill_leaders.ensures.1 whole long l.fill_leaders.ensures.0
+    (subst (λ (n : ℕ). FollowersAre n l.fill_leaders.new.leaders f.fill_followers.new.followers) b.requires.1.1 f.fill_followers.ensures.0)
 
-pub put-groups-spec : {M : Type 1} → statement M
-put-groups-spec =
+pub put_groups_spec : {M : Type 1} → statement M
+put_groups_spec =
     tie.close
     (tie.spec
     fill-leaders-requires
