@@ -1,5 +1,6 @@
 // What the programs print: the tables of a choice, the greatest number of an annotation, one of the short answers, or `refused` and the number.
 #![tactic(auto)]
+
 ghost use Rattle.std.specs.Prelude.{◌≡◌, ◌+◌, ◌<◌, ◌≤◌, max, length, get_or, drop};
 ghost use Rattle.theory.specs.Lists.{greatest as greatestOf};
 ghost use Rattle.model.specs.Choice.{entries as entries_of};

@@ -11,22 +11,21 @@ use Rattle.text.proofs.greatest_text.Statement.{statement}
 use Rattle.text.proofs.greatest_text.Tie as tie
 
 -- the text is short
-short : (c : tie.After-shared-slice-known) → length (greatest_text c.before.before.args.annotation.now) ≤ 15
-short c = greatest_short _ (greatest_few _ (λ k. omega (arith, c.shared-slice-known.given k)))
+short : (c : tie.After-shared_slice_known-1) → length (greatest_text c.args.annotation.now) ≤ 15
+short c = greatest_short _ (greatest_few _ (λ k. omega (arith, c.shared_slice_known-1.given k)))
 
 -- `put_greatest(text, 0, annotation)`
-put-greatest-requires : tie.Need-put-greatest-requires
-put-greatest-requires c κs = omega (arith, short c.before, c.before.before.before.requires)
+put-greatest-requires : tie.Need-put_greatest-requires
+put-greatest-requires c κs = omega (arith, short c.before, c.requires)
 
 -- `put_greatest(text, 0, annotation)`
-same_length : tie.Need-same-length
+same_length : tie.Need-shape_of-text
 same_length c = search rules
 
 -- `put_greatest(text, 0, annotation)`
 returns : tie.Need-returns
 returns c =
-    let g = c.before.before in
-    whole_text g.put-greatest.ensures g.put-greatest.auto.0 (omega (arith, short g.before.before, g.before.before.before.before.requires))
+    whole_text c.put_greatest.ensures c.put_greatest.auto.text (omega (arith, short c.before.before.before.before, c.requires))
 
-pub greatest-text-spec : {M : Type 1} → statement M
-greatest-text-spec = tie.close (tie.spec put-greatest-requires same_length returns)
+pub greatest_text_spec : {M : Type 1} → statement M
+greatest_text_spec = tie.close (tie.spec put-greatest-requires same_length returns)

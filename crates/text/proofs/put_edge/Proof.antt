@@ -21,43 +21,41 @@ module _ (b : tie.Start) (unless : Bool) (kind : b.args.edge.unless ≡ unless) 
   due = ap own kind
 
   room : b.args.at + length (own unless) ≤ length b.args.text.now
-  room = subst (λ (x : List ℕ). b.args.at + length x ≤ length b.args.text.now) due b.pre
+  room = subst (λ (x : List ℕ). b.args.at + length x ≤ length b.args.text.now) due b.requires
 
 -- ---- the needs
 -- `return put_fields(text, at, ex, edge)`
-put-fields-requires : tie.Need-put-fields-requires
+put-fields-requires : tie.Need-put_fields-requires
 unfolding if
-put-fields-requires c κs = room c.before.before.before.before.before true c.before.if1.true
+put-fields-requires c κs = room c.before.before.before.before.before true c.if-edge.true
 
 -- `return put_fields(text, at, ex, edge)`
-same_length : tie.Need-same-length
+same_length : tie.Need-shape_of-text-then-edge
 same_length c = search rules
 
 -- `return put_fields(text, at, ex, edge)`
-returns : tie.Need-returns
+returns : tie.Need-returns-then-edge
 unfolding if
 returns c =
-    let p = c.before.before in
-    rw (due p.before.before.before.before.before.before true p.before.before.if1.true) p.put-fields.ensures
+    rw (due c.before.before.before.before.before.before.before.before true c.if-edge.true) c.put_fields.ensures
 
 -- `put_fields(text, at, ed, edge)`
-put-fields-requires-2 : tie.Need-put-fields-requires-2
+put-fields-requires-2 : tie.Need-put_fields-requires-2
 unfolding if
-put-fields-requires-2 c κs = room c.before.before.before.before.before false c.before.if1.false
+put-fields-requires-2 c κs = room c.before.before.before.before.before false c.if-edge.false
 
 -- `put_fields(text, at, ed, edge)`
-same-length-2 : tie.Need-same-length-2
+same-length-2 : tie.Need-shape_of-text
 same-length-2 c = search rules
 
 -- `put_fields(text, at, ed, edge)`
-returns-2 : tie.Need-returns-2
+returns-2 : tie.Need-returns
 unfolding if
 returns-2 c =
-    let p = c.before.before in
-    rw (due p.before.before.before.before.before.before false p.before.before.if1.false) p.put-fields2.ensures
+    rw (due c.before.before.before.before.before.before.before.before false c.if-edge.false) c.put_fields-2.ensures
 
-pub put-edge-spec : {M : Type 1} → statement M
-put-edge-spec =
+pub put_edge_spec : {M : Type 1} → statement M
+put_edge_spec =
     tie.close
     (tie.spec
     put-fields-requires

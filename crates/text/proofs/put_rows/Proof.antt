@@ -19,91 +19,91 @@ use Rattle.text.proofs.put_rows.Tie as tie
 abbrev row_in : Architecture → ℕ → List ℕ → ℕ → List ℕ
 row_in a i tables x = row_text i x (row_of (process_in a i) (entries_of (first_in a i)) tables x)
 
-abbrev invariant-loop : tie.invariant-loop
+abbrev invariant-loop : tie.invariant-loop-x
 invariant-loop text₀ start a i tables bound at₀ x₀ text at x =
     Appending text₀ start (rows_text tables i (process_in a i) (entries_of (first_in a i))) at text (text_from (row_in a i tables) (process_in a i).bound x)
 
-abbrev decreases-loop : tie.decreases-loop
+abbrev decreases-loop : tie.decreases-loop-x
 decreases-loop text₀ start a i tables bound at₀ x₀ text at x = bound - x
 
 -- `let bound = a.bound_of(i)`
-bound-of-requires : tie.Need-bound-of-requires invariant-loop decreases-loop
-bound-of-requires c κs = let b = c.before.before in (b.requires.0, b.requires.1.0)
+bound-of-requires : tie.Need-bound_of-bound-requires invariant-loop decreases-loop
+bound-of-requires c κs = (c.requires.0, c.requires.1.0)
 
 -- `while x < bound`
-loop-holds : tie.Need-loop-init invariant-loop decreases-loop
+loop-holds : tie.Need-loop-x-init invariant-loop decreases-loop
 loop-holds c = rw sub-zero (appending_none _ _ _)
 
 -- ---- back to the loop
-abbrev entry : tie.At-loop invariant-loop decreases-loop → tie.Start invariant-loop decreases-loop
+abbrev entry : tie.At-loop-x invariant-loop decreases-loop → tie.Start invariant-loop decreases-loop
 entry c = c.before.before.before.before
 
-abbrev turn : tie.After-row-of invariant-loop decreases-loop → tie.In-loop invariant-loop decreases-loop
+abbrev turn : tie.After-row_of invariant-loop decreases-loop → tie.In-loop-x invariant-loop decreases-loop
 turn c = c.before.before
 
-module _ (c : tie.In-loop invariant-loop decreases-loop) where
+module _ (c : tie.In-loop-x invariant-loop decreases-loop) where
   -- process i
   abbrev p : Process
   p = process_in (entry c.before).args.a (entry c.before).args.i
 
   -- the state is one of the process, and it has few
-  state : c.before.loop.x < p.bound
-  state = omega (arith, c.loop-test.true, c.before.before.bound_of.ensures)
+  state : c.loop-x.x < p.bound
+  state = omega (arith, c.loop-x-test.true, c.bound_of-bound.ensures)
 
-  few : c.before.loop.x < 4
-  few = let b = entry c.before in omega (arith, state, (facts b.pre.0).few_states b.args.i b.pre.1.0)
+  few : c.loop-x.x < 4
+  few = let b = entry c.before in omega (arith, state, (facts b.requires.0).few_states b.args.i b.requires.1.0)
 
 -- `let state = ProcessState(x as u8)`
-cast-t11 : tie.Need-overflow-cast-t11 invariant-loop decreases-loop
+cast-t11 : tie.Need-overflow_cast-state invariant-loop decreases-loop
 cast-t11 c = omega (arith, few c)
 
 -- `at = put_row(text, at, i, state, row_of(a, i, state, tables))`
-row-of-requires : tie.Need-row-of-requires invariant-loop decreases-loop
-row-of-requires c κs = let b = entry c.before.before in (b.pre.0, ((b.pre.1.0, state c.before), b.pre.1.1.0))
+row-of-requires : tie.Need-row_of-requires invariant-loop decreases-loop
+row-of-requires c κs = let b = entry c.before.before in (b.requires.0, ((b.requires.1.0, state c.before), b.requires.1.1.0))
 
 -- the row of state x is due next
-next : (c : tie.After-row-of invariant-loop decreases-loop) → let a = (entry (turn c).before).args in let x = (turn c).before.loop.x in
+next : (c : tie.After-row_of invariant-loop decreases-loop) → let a = (entry (turn c).before).args in let x = (turn c).loop-x.x in
     let f = text_from (row_in a.a a.i a.tables.now) (p (turn c)).bound in
     Opens (f x) (row_text a.i x c.row_of.result.now) (f (x + 1))
 next c =
     let a = (entry (turn c).before).args in
-    let x = (turn c).before.loop.x in
+    let x = (turn c).loop-x.x in
     from_open (row_in a.a a.i a.tables.now) (p (turn c)).bound x _ (ap (row_text a.i x) c.row_of.ensures.0) (state (turn c))
 
 -- `at = put_row(text, at, i, state, row_of(a, i, state, tables))`
-put-row-requires : tie.Need-put-row-requires invariant-loop decreases-loop
-put-row-requires c κs = let l = (turn c).before in (appending_room l.loop.inv (entry l).pre.1.1.1 (next c), c.row_of.ensures.1)
+put-row-requires : tie.Need-put_row-at-requires invariant-loop decreases-loop
+put-row-requires c κs = let l = (turn c).before in (appending_room l.loop-x.invariant (entry l).requires.1.1.1 (next c), c.row_of.ensures.1)
 
 -- back from the end of a turn
-abbrev row : tie.After-slice-known2 invariant-loop decreases-loop → tie.After-row-of invariant-loop decreases-loop
+abbrev row : tie.After-slice_known-in-loop-x-1 invariant-loop decreases-loop → tie.After-row_of invariant-loop decreases-loop
 row c = c.before.before.before
 
 -- `x += 1`
-add-x : tie.Need-overflow-add-x invariant-loop decreases-loop
+add-x : tie.Need-overflow_add-x invariant-loop decreases-loop
 add-x c = omega (arith, few (turn (row c)))
 
 -- `while x < bound`
-loop-less : tie.Need-loop-smaller invariant-loop decreases-loop
-loop-less c = omega (arith, (turn (row c)).loop-test.taken)
+loop-less : tie.Need-loop-x-smaller invariant-loop decreases-loop
+loop-less c = omega (arith, (turn (row c)).loop-x-test.true)
 
 -- `while x < bound`
-loop-again : tie.Need-loop-preserved invariant-loop decreases-loop
-loop-again c = appending_next (turn (row c)).before.loop.inv (next (row c)) c.before.before.put-row.ensures
+loop-again : tie.Need-loop-x-preserved invariant-loop decreases-loop
+loop-again c = appending_next (turn (row c)).loop-x.invariant (next (row c)) c.put_row-at.ensures
 
 -- `at`
-same_length : tie.Need-same-length invariant-loop decreases-loop
-same_length c = appending_length c.before.loop.invariant (entry c.before).pre.1.1.1
+same_length : tie.Need-shape_of-text invariant-loop decreases-loop
+same_length c = appending_length c.loop-x.invariant (entry c.before).requires.1.1.1
 
 -- `at`
 returns : tie.Need-returns invariant-loop decreases-loop
 returns c =
     let l = c.before in
     let a = (entry l).args in
-    let left = from_end (row_in a.a a.i a.tables.now) (process_in a.a a.i).bound l.loop.x (omega (arith, c.loop-test.false, l.before.bound_of.ensures)) in
-    appending_all (rw left at l.loop.invariant)
+    let left = from_end (row_in a.a a.i a.tables.now) (process_in a.a a.i).bound l.loop-x.x (omega (arith, c.loop-x-test.false, l.bound_of-bound.ensures)) in
+    appending_all (rw left at l.loop-x.invariant)
 
-pub put-rows-spec : {M : Type 1} → statement M
-put-rows-spec =
+pub put_rows_spec : {M : Type 1} → statement M
+put_rows_spec =
     tie.close
     (tie.spec
     invariant-loop

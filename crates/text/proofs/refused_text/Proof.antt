@@ -11,7 +11,7 @@ use Rattle.text.proofs.refused_text.Statement.{statement}
 use Rattle.text.proofs.refused_text.Tie as tie
 
 -- `put_filled(text, 0, b"refused #\n", &[refusal.number() as usize])`
-slice-aggregate-put-filled : tie.Need-slice-aggregate-put-filled
+slice-aggregate-put-filled : tie.Need-slice_bounds-put_filled-end-2
 slice-aggregate-put-filled c = search rules
 
 -- `put_filled(text, 0, b"refused #\n", &[refusal.number() as usize])`
@@ -19,41 +19,35 @@ number-requires : tie.Need-number-requires
 number-requires c κs = search rules
 
 -- `put_filled(text, 0, b"refused #\n", &[refusal.number() as usize])`
-cast-t10 : tie.Need-overflow-cast-t10
+cast-t10 : tie.Need-overflow_cast-number
 cast-t10 c = search rules
-
--- `put_filled(text, 0, b"refused #\n", &[refusal.number() as usize])`
-slice-aggregate-put-filled-2 : tie.Need-slice-aggregate-put-filled-2
-slice-aggregate-put-filled-2 c = search rules
 
 -- the text is short
 short : (c : tie.After-number) → length (refused_text c.number.result) ≤ 19
 unfolding longest
-short c = filled_short 9 (ascii "refused #\n") (c.number.result ∷ []) (omega (arith, c.number.type-inv), tt)
+short c = filled_short 9 (ascii "refused #\n") (c.number.result ∷ []) (omega (arith, c.number.type_inv), tt)
 
 -- `put_filled(text, 0, b"refused #\n", &[refusal.number() as usize])`
-put-filled-requires : tie.Need-put-filled-requires
-put-filled-requires c κs = omega (arith, short c.before, c.before.before.before.before.before.requires)
+put-filled-requires : tie.Need-put_filled-requires
+put-filled-requires c κs = omega (arith, short c.before, c.requires)
 
 -- `put_filled(text, 0, b"refused #\n", &[refusal.number() as usize])`
-same_length : tie.Need-same-length
+same_length : tie.Need-shape_of-text
 same_length c = search rules
 
 -- `put_filled(text, 0, b"refused #\n", &[refusal.number() as usize])`
 returns : tie.Need-returns
 returns c =
-    let f = c.before.before in
-    let n = f.before.before in
-    rw (← n.number.ensures) (whole_text f.put-filled.ensures f.put-filled.auto.0 (omega (arith, short n, n.before.before.before.before.requires)))
+    let n = c.before.before.before.before in
+    rw (← n.number.ensures) (whole_text c.put_filled.ensures c.put_filled.auto.text (omega (arith, short n, n.requires)))
 
-pub refused-text-spec : {M : Type 1} → statement M
-refused-text-spec =
+pub refused_text_spec : {M : Type 1} → statement M
+refused_text_spec =
     tie.close
     (tie.spec
-    slice-aggregate-put-filled
     number-requires
     cast-t10
-    slice-aggregate-put-filled-2
+    slice-aggregate-put-filled
     put-filled-requires
     same_length
     returns)

@@ -13,52 +13,52 @@ use Rattle.text.proofs.row_of.Statement.{statement}
 use Rattle.text.proofs.row_of.Tie as tie
 
 -- `let from = a.row_at(i, x)`
-row-at-requires : tie.Need-row-at-requires
+row-at-requires : tie.Need-row_at-from-requires
 row-at-requires c κs = search rules
 
 -- `let end = from + architecture::row_length(a.inputs_of(i))`
-inputs-of-requires : tie.Need-inputs-of-requires
+inputs-of-requires : tie.Need-inputs_of-requires
 inputs-of-requires c κs = search rules
 
 -- `let end = from + architecture::row_length(a.inputs_of(i))`
-row-length-requires : tie.Need-row-length-requires
+row-length-requires : tie.Need-row_length-requires
 row-length-requires c κs = search rules
 
-module _ (c : tie.After-row-length) where
+module _ (c : tie.After-row_length) where
   abbrev entry : tie.Start
   entry = c.before.before.before.before
 
   -- how long the row is, and that it lies within the tables
-  long : c.row_length_lem.result ≡ row_length (process_in entry.args.a entry.args.i)
+  long : c.row_length.result ≡ row_length (process_in entry.args.a entry.args.i)
   long =
       let a = entry.args.a in
-      row_is (process_in a) entry.args.i _ _ c.before.inputs-of.ensures c.row_length_lem.ensures
+      row_is (process_in a) entry.args.i _ _ c.inputs_of.ensures c.row_length.ensures
 
   within : let p = process_in entry.args.a entry.args.i in
       row_at p (entries_of (first_in entry.args.a entry.args.i)) entry.args.x.0 + row_length p ≤ length entry.args.tables.now
   within =
       let a = entry.args.a in
       let i = entry.args.i in
-      let h = entry.pre.1.0 in
-      omega (arith, row_within a i (entries_of (first_in a i)) h.0 (starts_at a i (omega arith)) entry.args.x.0 h.1, entries_are a, entry.pre.1.1)
+      let h = entry.requires.1.0 in
+      omega (arith, row_within a i (entries_of (first_in a i)) h.0 (starts_at a i (omega arith)) entry.args.x.0 h.1, entries_are a, entry.requires.1.1)
 
-  inside : c.before.before.row_at.result + c.row_length_lem.result ≤ length entry.args.tables.now
-  inside = omega (arith, within, long, c.before.before.row_at.ensures)
+  inside : c.row_at-from.result + c.row_length.result ≤ length entry.args.tables.now
+  inside = omega (arith, within, long, c.row_at-from.ensures)
 
 -- `let end = from + architecture::row_length(a.inputs_of(i))`
-add-end : tie.Need-overflow-add-end
-add-end c = omega (arith, inside c, (entry c).well_formed_lem)
+add-end : tie.Need-overflow_add-end
+add-end c = omega (arith, inside c, (entry c).well_formed)
 
 -- `&tables[from..end]`
-sub-result : tie.Need-overflow-sub-result
+sub-result : tie.Need-slice_bounds-result-count
 sub-result c = search rules
 
 -- `&tables[from..end]`
-part-result-start : tie.Need-slice-bounds-result-start
+part-result-start : tie.Need-slice_bounds-result-start
 part-result-start c = search rules
 
 -- `&tables[from..end]`
-part-result-end : tie.Need-slice-bounds-result-end
+part-result-end : tie.Need-slice_bounds-result-end
 part-result-end c = inside c
 
 -- `&tables[from..end]`
@@ -68,11 +68,11 @@ returns c =
     let a = (entry l).args in
     let p = process_in a.a a.i in
     let at = entries_of (first_in a.a a.i) in
-    let is = row_part p at a.tables.now a.x.0 _ _ l.before.before.row_at.ensures (long l) in
+    let is = row_part p at a.tables.now a.x.0 _ _ l.row_at-from.ensures (long l) in
     (is, subst (λ (row : List ℕ). 0 < length row) (sym is) (row_long p at a.tables.now a.x.0 (within l)))
 
-pub row-of-spec : {M : Type 1} → statement M
-row-of-spec =
+pub row_of_spec : {M : Type 1} → statement M
+row_of_spec =
     tie.close
     (tie.spec
     row-at-requires

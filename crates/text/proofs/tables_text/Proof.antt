@@ -12,32 +12,31 @@ use Rattle.text.proofs.tables_text.Statement.{statement}
 use Rattle.text.proofs.tables_text.Tie as tie
 
 -- the text is short
-module _ (c : tie.After-shared-slice-known2) where
+module _ (c : tie.After-shared_slice_known-2-1) where
   abbrev entry : tie.Start
   entry = c.before.before.before
 
   short : length (text_of (architecture_of entry.args.a) entry.args.tables.now entry.args.annotation.now) ≤ 2048
   short =
-      text_short _ _ _ entry.pre.1.0.proper
-      (λ k. omega (arith, c.before.shared-slice-known.given k))
-      (greatest_few _ (λ k. omega (arith, c.shared-slice-known2.given k)))
+      text_short _ _ _ entry.requires.1.0.proper
+      (λ k. omega (arith, c.shared_slice_known-1.given k))
+      (greatest_few _ (λ k. omega (arith, c.shared_slice_known-2-1.given k)))
 
 -- `put_text(text, a, tables, annotation)`
-put-text-requires : tie.Need-put-text-requires
+put-text-requires : tie.Need-put_text-requires
 put-text-requires c κs =
     let b = entry c.before in
-    (b.pre.1.0, (b.pre.1.1, omega (arith, short c.before, b.pre.0)))
+    (b.requires.1.0, (b.requires.1.1, omega (arith, short c.before, b.requires.0)))
 
 -- `put_text(text, a, tables, annotation)`
-same_length : tie.Need-same-length
+same_length : tie.Need-shape_of-text
 same_length c = search rules
 
 -- `put_text(text, a, tables, annotation)`
 returns : tie.Need-returns
 returns c =
-    let t = c.before.before in
-    let k = t.before.before in
-    whole_text t.put-text.ensures t.put-text.auto.0 (omega (arith, short k, (entry k).requires.0))
+    let k = c.before.before.before.before in
+    whole_text c.put_text.ensures c.put_text.auto.text (omega (arith, short k, (entry k).requires.0))
 
-pub tables-text-spec : {M : Type 1} → statement M
-tables-text-spec = tie.close (tie.spec put-text-requires same_length returns)
+pub tables_text_spec : {M : Type 1} → statement M
+tables_text_spec = tie.close (tie.spec put-text-requires same_length returns)
