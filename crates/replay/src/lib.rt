@@ -1,5 +1,6 @@
 // What the annotating program prints of a run: its lengths, its start, and a line for each step with the vertex behind it. The steps are taken again.
 #![tactic(auto)]
+
 ghost use Rattle.std.specs.Prelude.{◌≡◌, ◌++◌, ◌+◌, ◌*◌, ◌^◌, ◌<◌, ◌≤◌, length, take};
 ghost use Rattle.model.specs.Choice.{chosen, IsTables};
 ghost use Rattle.architecture.specs.Struct.{IsProper as IsProperArchitecture, architecture_of};

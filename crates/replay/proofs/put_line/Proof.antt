@@ -13,7 +13,7 @@ use Rattle.replay.proofs.put_line.Statement.{statement}
 use Rattle.replay.proofs.put_line.Tie as tie
 
 -- the entry of the function
-abbrev entry : tie.After-put-filled → tie.Start
+abbrev entry : tie.After-put_filled-after_template → tie.Start
 entry c = c.before.before.before.before.before.before.before.before
 
 -- the template with its holes filled
@@ -25,26 +25,25 @@ abbrev vertex : tie.Start → List ℕ
 vertex b = let a = architecture_of b.args.a in vertex_text a (chosen a b.args.tables.now) (vertex_of b.args.a b.args.run)
 
 -- `let after_template = put_filled(text, run.at, template, numbers)`
-put-filled-requires : tie.Need-put-filled-requires
-put-filled-requires c κs = let b = c.before.before.before.before.before.before.before in room_front _ _ (front b) _ b.requires.1.1.1
+put-filled-requires : tie.Need-put_filled-after_template-requires
+put-filled-requires c κs = room_front _ _ (front c.before.before.before.before.before.before.before) _ c.requires.1.1.1
 
 -- `let at = put_vertex(text, after_template, a, tables, automaton, state)`
-put-vertex-requires : tie.Need-put-vertex-requires
+put-vertex-requires : tie.Need-put_vertex-at-requires
 put-vertex-requires c κs =
     let f = c.before.before.before in
     let b = entry f in
-    (b.pre.0, (b.pre.1.0, (b.pre.1.1.0, append_room f.put-filled.ensures _ b.pre.1.1.1)))
+    (b.requires.0, (b.requires.1.0, (b.requires.1.1.0, append_room f.put_filled-after_template.ensures _ b.requires.1.1.1)))
 
 -- `Progress`
-same_length : tie.Need-same-length
+same_length : tie.Need-shape_of-text
 same_length c = search rules
 
 -- `Progress`
 returns : tie.Need-returns
 returns c =
-    let v = c.before.before in
-    let f = v.before.before.before.before in
-    (append_more f.put-filled.ensures {ys = vertex (entry f)} v.put-vertex.ensures, (refl, refl))
+    let f = c.before.before.before.before.before.before in
+    (append_more f.put_filled-after_template.ensures {ys = vertex (entry f)} c.put_vertex-at.ensures, (refl, refl))
 
-pub put-line-spec : {M : Type 1} → statement M
-put-line-spec = tie.close (tie.spec put-filled-requires put-vertex-requires same_length returns)
+pub put_line_spec : {M : Type 1} → statement M
+put_line_spec = tie.close (tie.spec put-filled-requires put-vertex-requires same_length returns)

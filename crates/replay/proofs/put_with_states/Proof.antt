@@ -23,52 +23,48 @@ module _ (b : tie.Start) where
 
   room : b.args.at + length (first ++ states ++ ascii "\n") ≤ length b.args.text.now
   unfolding with_states
-  room = b.pre.1
+  room = b.requires.1
 
 -- ---- back from each part
-module _ (c : tie.After-put-filled) where
+module _ (c : tie.After-put_filled-after_template) where
   abbrev entry : tie.Start
   entry = c.before.before.before.before.before
 
-  opened : Appends entry.args.text.now entry.args.at (first entry) c.put-filled.result c.put-filled.new.0
-  opened = c.put-filled.ensures
+  opened : Appends entry.args.text.now entry.args.at (first entry) c.put_filled-after_template.result c.put_filled-after_template.new.text
+  opened = c.put_filled-after_template.ensures
 
-module _ (c : tie.After-put-states) where
-  abbrev filled_in : tie.After-put-filled
+module _ (c : tie.After-put_states-after_states) where
+  abbrev filled_in : tie.After-put_filled-after_template
   filled_in = c.before.before.before.before
 
-  stated : let b = entry filled_in in Appends b.args.text.now b.args.at (first b ++ states b) c.put-states.result c.put-states.new.0
-  stated = append_more (opened filled_in) c.put-states.ensures
+  stated : let b = entry filled_in in Appends b.args.text.now b.args.at (first b ++ states b) c.put_states-after_states.result c.put_states-after_states.new.text
+  stated = append_more (opened filled_in) c.put_states-after_states.ensures
 
 -- `let after_template = put_filled(text, at, template, numbers)`
-put-filled-requires : tie.Need-put-filled-requires
+put-filled-requires : tie.Need-put_filled-after_template-requires
 put-filled-requires c κs =
     let b = c.before.before.before.before in
     room_front _ _ (first b) (states b) (room_front _ _ (first b ++ states b) _ (room b))
 
 -- `let after_states = put_states(text, after_template, processes, state)`
-put-states-requires : tie.Need-put-states-requires
+put-states-requires : tie.Need-put_states-after_states-requires
 put-states-requires c κs =
     let f = c.before.before.before in
     let b = entry f in
-    (b.pre.0, append_room (opened f) (states b) (room_front _ _ (first b ++ states b) _ (room b)))
+    (b.requires.0, append_room (opened f) (states b) (room_front _ _ (first b ++ states b) _ (room b)))
 
 -- `put_bytes(text, after_states, b"\n")`
-slice-aggregate-put-bytes : tie.Need-slice-aggregate-put-bytes
-slice-aggregate-put-bytes c = search rules
+put-bytes-requires : tie.Need-put_bytes-requires
+put-bytes-requires c κs = let s = c.before.before.before.before.before in append_room (stated s) _ (room (entry (filled_in s)))
 
 -- `put_bytes(text, after_states, b"\n")`
-put-bytes-requires : tie.Need-put-bytes-requires
-put-bytes-requires c κs = let s = c.before.before.before.before in append_room (stated s) _ (room (entry (filled_in s)))
-
--- `put_bytes(text, after_states, b"\n")`
-same_length : tie.Need-same-length
+same_length : tie.Need-shape_of-text
 same_length c = search rules
 
 -- `put_bytes(text, after_states, b"\n")`
 returns : tie.Need-returns
 unfolding with_states
-returns c = append_more (stated c.before.before.before.before.before.before.before) c.before.before.put-bytes.ensures
+returns c = append_more (stated c.before.before.before.before.before.before.before.before) c.put_bytes.ensures
 
-pub put-with-states-spec : {M : Type 1} → statement M
-put-with-states-spec = tie.close (tie.spec put-filled-requires put-states-requires slice-aggregate-put-bytes put-bytes-requires same_length returns)
+pub put_with_states_spec : {M : Type 1} → statement M
+put_with_states_spec = tie.close (tie.spec put-filled-requires put-states-requires put-bytes-requires same_length returns)

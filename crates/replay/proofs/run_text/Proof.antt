@@ -16,7 +16,7 @@ use Rattle.replay.proofs.run_text.Statement.{statement}
 use Rattle.replay.proofs.run_text.Tie as tie
 
 -- the text is short
-module _ (c : tie.After-shared-slice-known) where
+module _ (c : tie.After-shared_slice_known-1) where
   abbrev entry : tie.Start
   entry = c.before.before
 
@@ -25,33 +25,31 @@ module _ (c : tie.After-shared-slice-known) where
 
   short : length run ≤ length entry.args.text.now
   short =
-      let b = entry in
-      let count = length (entries (architecture_of b.args.sheet.architecture)) in
-      let bytes = bytes_take b.args.tables.now count (λ k. omega (arith, c.shared-slice-known.given k)) in
+      let count = length (entries (architecture_of entry.args.sheet.architecture)) in
+      let bytes = bytes_take entry.args.tables.now count (λ k. omega (arith, c.shared_slice_known-1.given k)) in
       omega (
         arith,
-        run_short (sheet_of b.args.sheet) b.pre.1.0.proper _ b.pre.1.1.0 bytes b.args.stem b.args.cycle b.args.path.now
-            (omega (arith, b.fits.stem)) (omega (arith, b.fits.cycle)) b.pre.1.1.1,
-        b.pre.0,
+        run_short (sheet_of entry.args.sheet) entry.requires.1.0.proper _ entry.requires.1.1.0 bytes entry.args.stem entry.args.cycle entry.args.path.now
+            (omega (arith, entry.ranges.stem)) (omega (arith, entry.ranges.cycle)) entry.requires.1.1.1,
+        entry.requires.0,
       )
 
 -- `put_run(text, sheet, tables, path, stem, cycle)`
-put-run-requires : tie.Need-put-run-requires
+put-run-requires : tie.Need-put_run-requires
 put-run-requires c κs =
     let k = c.before.before in
     let b = entry k in
-    (b.pre.1.0, (b.pre.1.1.0, (b.pre.1.1.1, short k)))
+    (b.requires.1.0, (b.requires.1.1.0, (b.requires.1.1.1, short k)))
 
 -- `put_run(text, sheet, tables, path, stem, cycle)`
-same_length : tie.Need-same-length
+same_length : tie.Need-shape_of-text
 same_length c = search rules
 
 -- `put_run(text, sheet, tables, path, stem, cycle)`
 returns : tie.Need-returns
 returns c =
-    let p = c.before.before in
-    let k = p.before.before.before in
-    whole_text {text = run k} p.put-run.ensures p.put-run.auto.0 (short k)
+    let k = c.before.before.before.before.before in
+    whole_text {text = run k} c.put_run.ensures c.put_run.auto.text (short k)
 
-pub run-text-spec : {M : Type 1} → statement M
-run-text-spec = tie.close (tie.spec put-run-requires same_length returns)
+pub run_text_spec : {M : Type 1} → statement M
+run_text_spec = tie.close (tie.spec put-run-requires same_length returns)
