@@ -9,7 +9,7 @@ use lib.ListN.{length, length-append, length-map}
 use Rattle.theory.specs.Lists.{filter, one}
 use Rattle.theory.proofs.ListLaws.{filter_length}
 use Rattle.model.specs.Choice.{each}
-use Rattle.model.proofs.FirstInOrder.{Rising, up}
+use Rattle.model.proofs.FirstInOrder.{Rising, flat, up}
 
 -- ---- of any list
 filter_parts : {A : Type 0} (p : A → Bool) (xs ys : List A) → length (filter p (xs ++ ys)) ≡ length (filter p xs) + length (filter p ys)
@@ -51,6 +51,7 @@ module _ (p : List ℕ → Bool) (cs : List (List ℕ)) where
 
   -- behind one value alone
   pub each_one : (u : ℕ) {vs : List ℕ} → Rising vs → Memᴰ u vs → ((v : ℕ) → Memᴰ v vs → ¬ (v ≡ u) → behind v ≡ 0) → length (filter p (each vs cs)) ≡ behind u
+  each_one u flat m none = elim m [ ]
   each_one u (up {x = x} {xs = vs} h r) (Memᴰ.head e) none =
       let rest = each_same 0 vs (λ v m. none v (Memᴰ.tail m) (λ q. omega (arith, h v m))) in
       omega (arith, each_step x vs, ap behind e, rest)

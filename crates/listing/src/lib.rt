@@ -1,5 +1,6 @@
 // What the showing program prints: a line for each record of a sheet, and the counts.
 #![tactic(auto)]
+
 ghost use Rattle.std.specs.Prelude.{◌≡◌, ◌+◌, ◌*◌, ◌^◌, ◌<◌, ◌≤◌, eqb, length, get_or};
 ghost use Rattle.model.specs.Mask.{if, count};
 ghost use Rattle.model.specs.Choice.{next, rows};

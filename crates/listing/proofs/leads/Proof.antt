@@ -8,20 +8,20 @@ use Rattle.listing.proofs.leads.Statement.{statement}
 use Rattle.listing.proofs.leads.Tie as tie
 
 -- `let own = ties::process_leaders(a)`
-process-leaders-requires : tie.Need-process-leaders-requires
+process-leaders-requires : tie.Need-process_leaders-own-requires
 process-leaders-requires c κs = search rules
 
 -- `own[i] as usize == i`
-array-read-result : tie.Need-array-read-result
+array-read-result : tie.Need-bounds-own-i
 array-read-result c = search rules
 
 -- `own[i] as usize == i`
-cast-result : tie.Need-overflow-cast-result
+cast-result : tie.Need-overflow_cast-result
 cast-result c = search rules
 
 -- `own[i] as usize == i`
 returns : tie.Need-returns
-returns c = let b = c.before in ap (λ (l : ℕ). eqb l b.args.i) (own_leader b.args.a b.requires.0 _ c.process-leaders.ensures b.args.i b.requires.1)
+returns c = ap (λ (l : ℕ). eqb l c.args.i) (own_leader c.args.a c.requires.0 _ c.process_leaders-own.ensures c.args.i c.requires.1)
 
-pub leads-spec : {M : Type 1} → statement M
-leads-spec = tie.close (tie.spec process-leaders-requires array-read-result cast-result returns)
+pub leads_spec : {M : Type 1} → statement M
+leads_spec = tie.close (tie.spec process-leaders-requires array-read-result cast-result returns)

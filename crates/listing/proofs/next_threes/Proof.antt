@@ -6,14 +6,14 @@ use Rattle.listing.proofs.next_threes.Statement.{statement}
 use Rattle.listing.proofs.next_threes.Tie as tie
 
 -- `return 1`
-returns : tie.Need-returns
+returns : tie.Need-returns-then-bound-eq3
 unfolding threes if
-returns c = rw (eq-eqb c.before.args.bound 3 c.if1.true)
+returns c = rw (eq-eqb c.args.bound 3 c.if-bound-eq3.true)
 
 -- `0`
-returns-2 : tie.Need-returns-2
+returns-2 : tie.Need-returns
 unfolding threes if
-returns-2 c = rw (ne_eqb c.before.args.bound 3 c.if1.false)
+returns-2 c = rw (ne_eqb c.args.bound 3 c.if-bound-eq3.false)
 
-pub next-threes-spec : {M : Type 1} → statement M
-next-threes-spec = tie.close (tie.spec returns returns-2)
+pub next_threes_spec : {M : Type 1} → statement M
+next_threes_spec = tie.close (tie.spec returns returns-2)

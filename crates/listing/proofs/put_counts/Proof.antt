@@ -9,7 +9,7 @@ use Rattle.listing.proofs.put_counts.Statement.{statement}
 use Rattle.listing.proofs.put_counts.Tie as tie
 
 -- `a.composed_states()`
-composed-states-requires : tie.Need-composed-states-requires
+composed-states-requires : tie.Need-composed_states-requires
 composed-states-requires c κs = search rules
 
 -- `a.start(a.processes)`
@@ -25,37 +25,31 @@ threes-requires : tie.Need-threes-requires
 threes-requires c κs = search rules
 
 -- `b"composed #\nentries #\nchoices 2^# 3^#\n"`
-slice-aggregate-put-filled : tie.Need-slice-aggregate-put-filled
+slice-aggregate-put-filled : tie.Need-slice_bounds-put_filled-end-2
 slice-aggregate-put-filled c = search rules
 
--- `&numbers`
-slice-aggregate-put-filled-2 : tie.Need-slice-aggregate-put-filled-2
-slice-aggregate-put-filled-2 c = search rules
-
 -- the entries of all processes
-all : (c : tie.After-start) → c.start.result ≡ length (entries (architecture_of c.before.before.before.args.a))
-all c = c.start.ensures ∙ sym (entries_are c.before.before.before.args.a)
+all : (c : tie.After-start) → c.start.result ≡ length (entries (architecture_of c.args.a))
+all c = c.start.ensures ∙ sym (entries_are c.args.a)
 
 -- `put_filled(text, at, b"composed #\nentries #\nchoices 2^# 3^#\n", &numbers)`
-put-filled-requires : tie.Need-put-filled-requires
+put-filled-requires : tie.Need-put_filled-requires
 put-filled-requires c κs =
-    let t = c.before.before.before in
-    let s = t.before.before in
-    rw (s.before.composed-states.ensures, all s, t.before.twos.ensures, t.threes.ensures) s.before.before.before.requires.1
+    let s = c.before.before.before.before.before.before in
+    rw (s.composed_states.ensures, all s, c.twos.ensures, c.threes.ensures) s.requires.1
 
 -- `put_filled(text, at, b"composed #\nentries #\nchoices 2^# 3^#\n", &numbers)`
-same_length : tie.Need-same-length
+same_length : tie.Need-shape_of-text
 same_length c = search rules
 
 -- `put_filled(text, at, b"composed #\nentries #\nchoices 2^# 3^#\n", &numbers)`
 returns : tie.Need-returns
 returns c =
-    let t = c.before.before.before.before.before.before in
-    let s = t.before.before in
-    rw (← s.before.composed-states.ensures, ← all s, ← t.before.twos.ensures, ← t.threes.ensures) c.before.before.put-filled.ensures
+    let s = c.before.before.before.before.before.before.before.before.before in
+    rw (← s.composed_states.ensures, ← all s, ← c.twos.ensures, ← c.threes.ensures) c.put_filled.ensures
 
-pub put-counts-spec : {M : Type 1} → statement M
-put-counts-spec =
+pub put_counts_spec : {M : Type 1} → statement M
+put_counts_spec =
     tie.close
     (tie.spec
     composed-states-requires
@@ -63,7 +57,6 @@ put-counts-spec =
     twos-requires
     threes-requires
     slice-aggregate-put-filled
-    slice-aggregate-put-filled-2
     put-filled-requires
     same_length
     returns)

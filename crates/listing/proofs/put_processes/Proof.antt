@@ -8,63 +8,63 @@ use Rattle.listing.specs.Listing.{process_text, processes_text}
 use Rattle.listing.proofs.put_processes.Statement.{statement}
 use Rattle.listing.proofs.put_processes.Tie as tie
 
-abbrev invariant-loop : tie.invariant-loop
+abbrev invariant-loop : tie.invariant-loop-i
 invariant-loop text₀ start a n at₀ i₀ text at i =
     (i ≤ n) × Appending text₀ start (processes_text (processes_in a)) at text (processes_from (λ j p at. process_text j p) a i)
 
-abbrev decreases-loop : tie.decreases-loop
+abbrev decreases-loop : tie.decreases-loop-i
 decreases-loop text₀ start a n at₀ i₀ text at i = n - i
 
 -- `while i < n`
-loop-holds : tie.Need-loop-init invariant-loop decreases-loop
+loop-holds : tie.Need-loop-i-init invariant-loop decreases-loop
 unfolding processes_of entries_of
 loop-holds c = (omega arith, appending_none _ _ _)
 
 -- the entry of the function
-abbrev entry : tie.At-loop invariant-loop decreases-loop → tie.Start invariant-loop decreases-loop
+abbrev entry : tie.At-loop-i invariant-loop decreases-loop → tie.Start invariant-loop decreases-loop
 entry c = c.before.before
 
 -- process i is due next
-next : (c : tie.In-loop invariant-loop decreases-loop) → let a = (entry c.before).args.a in let i = c.before.loop.i in
+next : (c : tie.In-loop-i invariant-loop decreases-loop) → let a = (entry c.before).args.a in let i = c.loop-i.i in
     Opens (processes_from (λ j p at. process_text j p) a i) (process_text i (process_in a i)) (processes_from (λ j p at. process_text j p) a (i + 1))
-next c = processes_open (λ j p at. process_text j p) (entry c.before).args.a c.before.loop.i c.loop-test.true
+next c = processes_open (λ j p at. process_text j p) (entry c.before).args.a c.loop-i.i c.loop-i-test.true
 
 -- `at = put_process(text, at, a, i)`
-put-process-requires : tie.Need-put-process-requires invariant-loop decreases-loop
+put-process-requires : tie.Need-put_process-at-requires invariant-loop decreases-loop
 put-process-requires c κs =
     let l = c.before.before in
-    ((entry l).requires.0, (c.before.loop-test.true, appending_room l.loop.invariant.1 (entry l).requires.1 (next c.before)))
+    ((entry l).requires.0, (c.loop-i-test.true, appending_room l.loop-i.invariant.1 (entry l).requires.1 (next c.before)))
 
 -- in the loop
-abbrev turn : tie.After-slice-known2 invariant-loop decreases-loop → tie.In-loop invariant-loop decreases-loop
+abbrev turn : tie.After-slice_known-in-loop-i-1 invariant-loop decreases-loop → tie.In-loop-i invariant-loop decreases-loop
 turn c = c.before.before.before.before
 
 -- `i += 1`
-add-i : tie.Need-overflow-add-i invariant-loop decreases-loop
-add-i c = omega (arith, (turn c).loop-test.true, (entry (turn c).before).pre.0.arrays.few_processes)
+add-i : tie.Need-overflow_add-i invariant-loop decreases-loop
+add-i c = omega (arith, (turn c).loop-i-test.true, (entry (turn c).before).requires.0.arrays.few_processes)
 
 -- `while i < n`
-loop-less : tie.Need-loop-smaller invariant-loop decreases-loop
-loop-less c = omega (arith, (turn c).loop-test.true)
+loop-less : tie.Need-loop-i-smaller invariant-loop decreases-loop
+loop-less c = omega (arith, (turn c).loop-i-test.true)
 
 -- `while i < n`
-loop-again : tie.Need-loop-preserved invariant-loop decreases-loop
+loop-again : tie.Need-loop-i-preserved invariant-loop decreases-loop
 loop-again c =
-    (omega (arith, (turn c).loop-test.true), appending_next (turn c).before.loop.invariant.1 (next (turn c)) c.before.before.put-process.ensures)
+    (omega (arith, (turn c).loop-i-test.true), appending_next (turn c).loop-i.invariant.1 (next (turn c)) c.put_process-at.ensures)
 
 -- `at`
-same_length : tie.Need-same-length invariant-loop decreases-loop
-same_length c = appending_length c.before.loop.invariant.1 (entry c.before).pre.1
+same_length : tie.Need-shape_of-text invariant-loop decreases-loop
+same_length c = appending_length c.loop-i.invariant.1 (entry c.before).requires.1
 
 -- `at`
 returns : tie.Need-returns invariant-loop decreases-loop
 returns c =
     let l = c.before in
-    let left = processes_none (λ j p at. process_text j p) (entry l).args.a l.loop.i (omega (arith, c.loop-test.false, l.loop.invariant.0)) in
-    appending_all (rw left at l.loop.invariant.1)
+    let left = processes_none (λ j p at. process_text j p) (entry l).args.a l.loop-i.i (omega (arith, c.loop-i-test.false, l.loop-i.invariant.0)) in
+    appending_all (rw left at l.loop-i.invariant.1)
 
-pub put-processes-spec : {M : Type 1} → statement M
-put-processes-spec =
+pub put_processes_spec : {M : Type 1} → statement M
+put_processes_spec =
     tie.close
     (tie.spec
     invariant-loop

@@ -36,7 +36,7 @@ module _ (b : tie.Start) where
 
   room-all : Room (five ++ counts_text (architecture_of b.args.sheet.architecture))
   unfolding show_text architecture_of automaton_of
-  room-all = omega (arith, b.pre.1)
+  room-all = omega (arith, b.requires.1)
 
   room-five : Room five
   room-five = room_front _ _ five _ room-all
@@ -51,105 +51,95 @@ module _ (b : tie.Start) where
   room-two = room_front _ _ two _ room-three
 
 -- ---- back from each part
-module _ (c : tie.After-put-front) where
+module _ (c : tie.After-put_front-after_front) where
   abbrev entry : tie.Start
   entry = c.before.before.before.before.before
 
-  fronted : Appends entry.args.text.now 0 (front entry) c.put_front.result c.put_front.new.0
-  fronted = c.put_front.ensures
+  fronted : Appends entry.args.text.now 0 (front entry) c.put_front-after_front.result c.put_front-after_front.new.text
+  fronted = c.put_front-after_front.ensures
 
-module _ (c : tie.After-put-processes) where
+module _ (c : tie.After-put_processes-after_processes) where
   abbrev start₂ : tie.Start
   start₂ = entry c.before.before.before.before
 
-  listed : Appends start₂.args.text.now 0 (two start₂) c.put-processes.result c.put-processes.new.0
-  listed = append_more (fronted c.before.before.before.before) c.put-processes.ensures
+  listed : Appends start₂.args.text.now 0 (two start₂) c.put_processes-after_processes.result c.put_processes-after_processes.new.text
+  listed = append_more (fronted c.before.before.before.before) c.put_processes-after_processes.ensures
 
-module _ (c : tie.After-put-ties) where
+module _ (c : tie.After-put_ties-after_ties) where
   abbrev start₃ : tie.Start
   start₃ = start₂ c.before.before.before.before
 
-  tied : Appends start₃.args.text.now 0 (three start₃) c.put-ties.result c.put-ties.new.0
-  tied = append_more (listed c.before.before.before.before) c.put-ties.ensures
+  tied : Appends start₃.args.text.now 0 (three start₃) c.put_ties-after_ties.result c.put_ties-after_ties.new.text
+  tied = append_more (listed c.before.before.before.before) c.put_ties-after_ties.ensures
 
-module _ (c : tie.After-put-states) where
+module _ (c : tie.After-put_states-after_states) where
   abbrev start₄ : tie.Start
   start₄ = start₃ c.before.before.before.before
 
-  stated : Appends start₄.args.text.now 0 (four start₄) c.put-states.result c.put-states.new.0
-  stated = append_more (tied c.before.before.before.before) c.put-states.ensures
+  stated : Appends start₄.args.text.now 0 (four start₄) c.put_states-after_states.result c.put_states-after_states.new.text
+  stated = append_more (tied c.before.before.before.before) c.put_states-after_states.ensures
 
-module _ (c : tie.After-put-edges) where
+module _ (c : tie.After-put_edges-after_edges) where
   abbrev start₅ : tie.Start
-  start₅ = start₄ c.before.before.before.before.before.before
+  start₅ = start₄ c.before.before.before.before.before.before.before.before
 
-  joined : Appends start₅.args.text.now 0 (five start₅) c.put-edges.result c.put-edges.new.0
-  joined = append_more (stated c.before.before.before.before.before.before) c.put-edges.ensures
+  joined : Appends start₅.args.text.now 0 (five start₅) c.put_edges-after_edges.result c.put_edges-after_edges.new.text
+  joined = append_more (stated c.before.before.before.before.before.before.before.before) c.put_edges-after_edges.ensures
 
 -- `let after_front = put_front(text, 0, a)`
-put-front-requires : tie.Need-put-front-requires
+put-front-requires : tie.Need-put_front-after_front-requires
 put-front-requires c κs =
     let b = c.before.before.before.before in
     (architecture_proper b.args.sheet b.requires.0, room_front _ _ (front b) _ (room-two b))
 
 -- `let after_processes = put_processes(text, after_front, a)`
-put-processes-requires : tie.Need-put-processes-requires
+put-processes-requires : tie.Need-put_processes-after_processes-requires
 put-processes-requires c κs =
     let f = c.before.before.before in
     let b = entry f in
-    (architecture_proper b.args.sheet b.pre.0, append_room (fronted f) _ (room-two b))
+    (architecture_proper b.args.sheet b.requires.0, append_room (fronted f) _ (room-two b))
 
 -- `let after_ties = put_ties(text, after_processes, a)`
-put-ties-requires : tie.Need-put-ties-requires
+put-ties-requires : tie.Need-put_ties-after_ties-requires
 put-ties-requires c κs =
     let p = c.before.before.before in
     let b = start₂ p in
-    (architecture_proper b.args.sheet b.pre.0, append_room (listed p) _ (room-three b))
+    (architecture_proper b.args.sheet b.requires.0, append_room (listed p) _ (room-three b))
 
 -- `let after_states = put_states(text, after_ties, u)`
-put-states-requires : tie.Need-put-states-requires
+put-states-requires : tie.Need-put_states-after_states-requires
 put-states-requires c κs = let t = c.before.before.before in append_room (tied t) _ (room-four (start₃ t))
 
--- `b"edge # to # on @ off @\n"`
-slice-aggregate-put-edges : tie.Need-slice-aggregate-put-edges
-slice-aggregate-put-edges c = search rules
-
--- `b"edge # to # unless on @ off @\n"`
-slice-aggregate-put-edges-2 : tie.Need-slice-aggregate-put-edges-2
-slice-aggregate-put-edges-2 c = search rules
-
 -- `let after_edges = text::put_edges(..)`
-put-edges-requires : tie.Need-put-edges-requires
+put-edges-requires : tie.Need-put_edges-after_edges-requires
 put-edges-requires c κs =
-    let s = c.before.before.before.before.before in
+    let s = c.before.before.before.before.before.before.before in
     ((start₄ s).requires.0.arrays.automaton, append_room (stated s) _ (room-five (start₄ s)))
 
 -- `put_counts(text, after_edges, a)`
-put-counts-requires : tie.Need-put-counts-requires
+put-counts-requires : tie.Need-put_counts-requires
 put-counts-requires c κs =
     let e = c.before.before.before in
     let b = start₅ e in
-    (architecture_proper b.args.sheet b.pre.0, append_room (joined e) _ (room-all b))
+    (architecture_proper b.args.sheet b.requires.0, append_room (joined e) _ (room-all b))
 
 -- `put_counts(text, after_edges, a)`
-same_length : tie.Need-same-length
+same_length : tie.Need-shape_of-text
 same_length c = search rules
 
 -- `put_counts(text, after_edges, a)`
 returns : tie.Need-returns
 unfolding show_text architecture_of automaton_of
-returns c = append_more (joined c.before.before.before.before.before.before) c.before.before.put-counts.ensures
+returns c = append_more (joined c.before.before.before.before.before.before) c.put_counts.ensures
 
-pub put-sheet-spec : {M : Type 1} → statement M
-put-sheet-spec =
+pub put_sheet_spec : {M : Type 1} → statement M
+put_sheet_spec =
     tie.close
     (tie.spec
     put-front-requires
     put-processes-requires
     put-ties-requires
     put-states-requires
-    slice-aggregate-put-edges
-    slice-aggregate-put-edges-2
     put-edges-requires
     put-counts-requires
     same_length

@@ -8,21 +8,18 @@ use Rattle.listing.proofs.sheet_text.Statement.{statement}
 use Rattle.listing.proofs.sheet_text.Tie as tie
 
 -- `put_sheet(text, sheet)`
-put-sheet-requires : tie.Need-put-sheet-requires
+put-sheet-requires : tie.Need-put_sheet-requires
 put-sheet-requires c κs =
-    let b = c.before.before in
-    (b.requires.1, omega (arith, show_short (sheet_of b.args.sheet) b.requires.1.proper, b.requires.0))
+    (c.requires.1, omega (arith, show_short (sheet_of c.args.sheet) c.requires.1.proper, c.requires.0))
 
 -- `put_sheet(text, sheet)`
-same_length : tie.Need-same-length
+same_length : tie.Need-shape_of-text
 same_length c = search rules
 
 -- `put_sheet(text, sheet)`
 returns : tie.Need-returns
 returns c =
-    let p = c.before.before in
-    let b = p.before.before.before in
-    whole_text p.put-sheet.ensures p.put-sheet.auto.0 (omega (arith, show_short (sheet_of b.args.sheet) b.requires.1.proper, b.requires.0))
+    whole_text c.put_sheet.ensures c.put_sheet.auto.text (omega (arith, show_short (sheet_of c.args.sheet) c.requires.1.proper, c.requires.0))
 
-pub sheet-text-spec : {M : Type 1} → statement M
-sheet-text-spec = tie.close (tie.spec put-sheet-requires same_length returns)
+pub sheet_text_spec : {M : Type 1} → statement M
+sheet_text_spec = tie.close (tie.spec put-sheet-requires same_length returns)

@@ -15,73 +15,72 @@ use Rattle.listing.proofs.Exponents.{threes_few, once_from, once_all, once_none,
 use Rattle.listing.proofs.threes.Statement.{statement}
 use Rattle.listing.proofs.threes.Tie as tie
 
-abbrev invariant-loop : tie.invariant-loop
+abbrev invariant-loop : tie.invariant-loop-i
 invariant-loop a n sum₀ i₀ sum i = (i ≤ n) × ((sum ≤ 160 * i) × (sum + total threes (rows (once_from a i)) ≡ total threes (rows (once_from a 0))))
 
-abbrev decreases-loop : tie.decreases-loop
+abbrev decreases-loop : tie.decreases-loop-i
 decreases-loop a n sum₀ i₀ sum i = n - i
 
 -- `while i < n`
-loop-holds : tie.Need-loop-init invariant-loop decreases-loop
+loop-holds : tie.Need-loop-i-init invariant-loop decreases-loop
 loop-holds c = (omega arith, (omega arith, omega arith))
 
 -- `sum += rows_total(a, i, 0, next_threes(a.bound_of(i)))`
-bound-of-requires : tie.Need-bound-of-requires invariant-loop decreases-loop
-bound-of-requires c κs = (c.before.before.requires, c.loop-test.true)
+bound-of-requires : tie.Need-bound_of-requires invariant-loop decreases-loop
+bound-of-requires c κs = (c.requires, c.loop-i-test.true)
 
 -- `sum += rows_total(a, i, 0, next_threes(a.bound_of(i)))`
-next-threes-requires : tie.Need-next-threes-requires invariant-loop decreases-loop
+next-threes-requires : tie.Need-next_threes-requires invariant-loop decreases-loop
 next-threes-requires c κs = search rules
 
 -- `sum += rows_total(a, i, 0, next_threes(a.bound_of(i)))`
-rows-total-requires : tie.Need-rows-total-requires invariant-loop decreases-loop
+rows-total-requires : tie.Need-rows_total-sum-requires invariant-loop decreases-loop
 rows-total-requires c κs =
-    let t = c.before.before in
-    (t.before.before.requires, (t.loop-test.true, (omega arith, omega (arith, c.next-threes.ensures, threes_few.of_next c.before.bound_of.result))))
+    (c.requires, (c.loop-i-test.true, (omega arith, omega (arith, c.next_threes.ensures, threes_few.of_next c.bound_of.result))))
 
-module _ (c : tie.After-rows-total invariant-loop decreases-loop) where
-  abbrev turn : tie.In-loop invariant-loop decreases-loop
+module _ (c : tie.After-rows_total-sum invariant-loop decreases-loop) where
+  abbrev turn : tie.In-loop-i invariant-loop decreases-loop
   turn = c.before.before.before
 
   abbrev entry : tie.Start invariant-loop decreases-loop
   entry = turn.before.before
 
   -- what was added is process i's
-  added : c.rows-total.result ≡
-      let a = entry.args.a in let i = turn.before.loop.i in if (eqb (get_or (leaders a.processes (ties_in a)) i 0) i) (process_total threes (process_in a i)) 0
+  added : c.rows_total-sum.result ≡
+      let a = entry.args.a in let i = turn.loop-i.i in if (eqb (get_or (leaders a.processes (ties_in a)) i 0) i) (process_total threes (process_in a i)) 0
   unfolding threes
-  added = rw (c.before.next-threes.ensures, c.before.before.bound_of.ensures) at c.rows-total.ensures.0
+  added = rw (c.next_threes.ensures, c.bound_of.ensures) at c.rows_total-sum.ensures.0
 
 -- `sum += rows_total(a, i, 0, next_threes(a.bound_of(i)))`
-add-sum : tie.Need-overflow-add-sum invariant-loop decreases-loop
-add-sum c = omega (arith, c.rows-total.ensures.1, (turn c).before.loop.invariant.1.0, (turn c).loop-test.true, (facts (entry c).requires).few_processes)
+add-sum : tie.Need-overflow_add-sum invariant-loop decreases-loop
+add-sum c = omega (arith, c.rows_total-sum.ensures.1, (turn c).loop-i.invariant.1.0, (turn c).loop-i-test.true, (facts (entry c).requires).few_processes)
 
 -- `i += 1`
-add-i : tie.Need-overflow-add-i invariant-loop decreases-loop
-add-i c = omega (arith, (turn c).loop-test.true, (facts (entry c).requires).few_processes)
+add-i : tie.Need-overflow_add-i invariant-loop decreases-loop
+add-i c = omega (arith, (turn c).loop-i-test.true, (facts (entry c).requires).few_processes)
 
 -- `while i < n`
-loop-less : tie.Need-loop-smaller invariant-loop decreases-loop
-loop-less c = omega (arith, (turn c).loop-test.true)
+loop-less : tie.Need-loop-i-smaller invariant-loop decreases-loop
+loop-less c = omega (arith, (turn c).loop-i-test.true)
 
 -- `while i < n`
-loop-again : tie.Need-loop-preserved invariant-loop decreases-loop
+loop-again : tie.Need-loop-i-preserved invariant-loop decreases-loop
 loop-again c =
-    let l = (turn c).before.loop in
-    let h = (turn c).loop-test.true in
-    (omega (arith, h), (omega (arith, l.inv.1.0, c.rows-total.ensures.1), omega (arith, l.inv.1.1, added c, total_turn threes (entry c).args.a (entry c).requires l.i h)))
+    let l = (turn c).loop-i in
+    let h = (turn c).loop-i-test.true in
+    (omega (arith, h), (omega (arith, l.invariant.1.0, c.rows_total-sum.ensures.1), omega (arith, l.invariant.1.1, added c, total_turn threes (entry c).args.a (entry c).requires l.i h)))
 
 -- `sum`
 returns : tie.Need-returns invariant-loop decreases-loop
 unfolding rows total
 returns c =
-    let a = c.before.before.args.a in
-    let l = c.before.loop in
+    let a = c.args.a in
+    let l = c.loop-i in
     let e : l.i ≡ a.processes = omega arith in
-    omega (arith, rw (once_none a c.before.before.requires l.i e, once_all a) at l.invariant.1.1)
+    omega (arith, rw (once_none a c.requires l.i e, once_all a) at l.invariant.1.1)
 
-pub threes-spec : {M : Type 1} → statement M
-threes-spec =
+pub threes_spec : {M : Type 1} → statement M
+threes_spec =
     tie.close
     (tie.spec
     invariant-loop
