@@ -1,5 +1,6 @@
 // Finding the first tables that keep a sheet, once the sheet is read.
 #![tactic(auto)]
+
 ghost use Rattle.std.specs.Prelude.{◌≡◌, length};
 ghost use Rattle.model.specs.Choice.{entries as entries_of, chosen};
 ghost use Rattle.model.specs.Reading.{proper};

@@ -11,100 +11,89 @@ use Rattle.synthesis.proofs.find_for.Statement.{statement}
 use Rattle.synthesis.proofs.find_for.Tie as tie
 
 -- `let room = check_room(sheet, book, annotation)`
-check-room-requires : tie.Need-check-room-requires
+check-room-requires : tie.Need-check_room-room-requires
 check-room-requires c κs = search rules
 
 -- `if let Reply::Refused(refusal) = room`
-enum-known-room : tie.Need-enum-known-room
+enum-known-room : tie.Need-enum_known-room
 enum-known-room c = search rules
 
 -- `return Outcome::Refused(refusal)`
-same_length : tie.Need-same-length
+same_length : tie.Need-shape_of-book-in-Refused
 same_length c = search rules
 
 -- `return Outcome::Refused(refusal)`
-same-length-2 : tie.Need-same-length-2
+same-length-2 : tie.Need-shape_of-annotation-in-Refused
 same-length-2 c = search rules
 
 -- `return Outcome::Refused(refusal)`
-returns : tie.Need-returns
+returns : tie.Need-returns-in-Refused
 unfolding find_in
 returns c =
-    let a = c.before.before.before.before.before.before.before.before.args in
-    let e = no_room (sheet_of a.sheet) a.book.now a.annotation.now c.before.room.given.0.0 (sym c.before.room.given.1 ∙ c.before.before.before.check-room.ensures) in
+    let a = c.args in
+    let e = no_room (sheet_of a.sheet) a.book.now a.annotation.now c.in-Refused.refusal (sym c.in-Refused.is ∙ c.check_room-room.ensures) in
     rw e (refl, (refl, refl))
 
 -- `if let Reply::Refused(refusal) = room`
-enum_told : tie.Need-enum-told
+enum_told : tie.Need-enum_told-1
 enum_told c = search rules
 
 -- there is room
-room-is : (c : tie.After-enum-told) → let a = c.before.before.before.before.before.before.before.args in
+room-is : (c : tie.In_default) → let a = c.args in
     room_to_find (sheet_of a.sheet) a.book.now a.annotation.now ≡ proper (sheet_of a.sheet)
-room-is c = some_room _ _ _ (sym c.enum_told.given.1 ∙ c.before.before.check-room.ensures)
+room-is c = some_room _ _ _ (sym c.in_default.is ∙ c.check_room-room.ensures)
 
 -- `let found = first_tables(&mut witness, sheet)`
-first-tables-requires : tie.Need-first-tables-requires
+first-tables-requires : tie.Need-first_tables-found-requires
 first-tables-requires c κs = search rules
 
 -- what the search says, by its answer
-leads : (c : tie.After-first-tables) (r : Searched) → c.first-tables.result ≡ r
-    → Leads (sheet_of c.before.before.before.before.before.before.before.before.before.args.sheet) c.first-tables.new.0 r
-leads c r e = subst (Leads (sheet_of c.before.before.before.before.before.before.before.before.before.args.sheet) c.first-tables.new.0) e c.first-tables.ensures
+leads : (c : tie.After-first_tables-found) (r : Searched) → c.first_tables-found.result ≡ r
+    → Leads (sheet_of c.args.sheet) c.first_tables-found.new.witness r
+leads c r e = subst (Leads (sheet_of c.args.sheet) c.first_tables-found.new.witness) e c.first_tables-found.ensures
 
 -- `Searched::Nothing => Outcome::Nothing`
-enum-told-2 : tie.Need-enum-told-2
+enum-told-2 : tie.Need-enum_told-in-Nothing
 enum-told-2 c = search rules
 
 -- `put_found(sheet, &witness, book, annotation)`
-enum-told-3 : tie.Need-enum-told-3
+enum-told-3 : tie.Need-enum_told-in-Tables
 enum-told-3 c = search rules
 
 -- `put_found(sheet, &witness, book, annotation)`
-put-found-requires : tie.Need-put-found-requires
-put-found-requires c κs =
-    let b = c.before.before.before.before.before.before.before.before.before.before.before.before.before.before in (
-      b.requires,
-      (
-        (leads c.before.before.before.before.before Searched.Tables c.before.before.before.enum-told3.given.1).0,
-        room-is c.before.before.before.before.before.before.before,
-      ),
-    )
+put-found-requires : tie.Need-put_found-requires
+put-found-requires c κs = (c.requires, ((leads c.before.before.before.before Searched.Tables c.in-Tables.is).0, room-is c.before.before.before.before.before.before))
 
 -- `match found`
-same-length-3 : tie.Need-same-length-3
+same-length-3 : tie.Need-shape_of-book-in-Nothing
 same-length-3 c = search rules
 
 -- `match found`
-same-length-4 : tie.Need-same-length-4
+same-length-4 : tie.Need-shape_of-annotation-in-Nothing
 same-length-4 c = search rules
 
 -- `match found`
-returns-2 : tie.Need-returns-2
+returns-2 : tie.Need-returns-in-Nothing
 unfolding find_in find_choice
-returns-2 c = rw (room-is c.before.before.before.before, leads c.before.before Searched.Nothing c.enum-told2.given.1) (refl, (refl, refl))
+returns-2 c = rw (room-is c.before.before.before, leads c.before Searched.Nothing c.in-Nothing.is) (refl, (refl, refl))
 
 -- `match found`
-same-length-5 : tie.Need-same-length-5
+same-length-5 : tie.Need-shape_of-book-in-Tables
 same-length-5 c = search rules
 
 -- `match found`
-same-length-6 : tie.Need-same-length-6
+same-length-6 : tie.Need-shape_of-annotation-in-Tables
 same-length-6 c = search rules
 
 -- `match found`
-returns-3 : tie.Need-returns-3
+returns-3 : tie.Need-returns-in-Tables
 unfolding find_in find_choice
 returns-3 c =
-    let f = c.before.before.before.before.put-found.ensures in
-    rw (
-      room-is c.before.before.before.before.before.before.before.before.before.before.before.before,
-      (leads c.before.before.before.before.before.before.before.before.before.before Searched.Tables
-          c.before.before.before.before.before.before.before.before.enum-told3.given.1).1,
-    ) (refl, (f.0, f.1))
+    let f = c.put_found.ensures in
+    rw (room-is c.before.before.before.before.before.before.before.before.before.before.before, (leads c.before.before.before.before.before.before.before.before.before Searched.Tables c.in-Tables.is).1) (refl, (f.0, f.1))
 
-pub find-for-spec : {M : Type 1} → statement M
-find-for-spec =
+pub find_for_spec : {M : Type 1} → statement M
+find_for_spec =
     tie.close
     (tie.spec
     check-room-requires

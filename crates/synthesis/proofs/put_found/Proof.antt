@@ -9,19 +9,19 @@ use Rattle.synthesis.proofs.put_found.Statement.{statement}
 use Rattle.synthesis.proofs.put_found.Tie as tie
 
 -- `book::write_for(a, witness, book)`
-write-for-requires : tie.Need-write-for-requires
-write-for-requires c κs = architecture_proper _ c.before.before.before.before.requires.0
+write-for-requires : tie.Need-write_for-requires
+write-for-requires c κs = architecture_proper _ c.requires.0
 
 -- `judging::annotate_tables(sheet, witness, annotation)`
-annotate-tables-requires : tie.Need-annotate-tables-requires
-annotate-tables-requires c κs = let p = c.before.before.before.before.before.before.before.before.before.requires in (p.0, p.1.0.choice.tables)
+annotate-tables-requires : tie.Need-annotate_tables-requires
+annotate-tables-requires c κs = let p = c.requires in (p.0, p.1.0.choice.tables)
 
 -- `judging::annotate_tables(sheet, witness, annotation)`
-same_length : tie.Need-same-length
+same_length : tie.Need-shape_of-book
 same_length c = search rules
 
 -- `judging::annotate_tables(sheet, witness, annotation)`
-same-length-2 : tie.Need-same-length-2
+same-length-2 : tie.Need-shape_of-annotation
 same-length-2 c = search rules
 
 -- `judging::annotate_tables(sheet, witness, annotation)`
@@ -35,9 +35,14 @@ returns c =
     let room = b.requires.1.1 in
     let e = book_written s a.witness.now a.book.now a.annotation.now w.choice room in
     let f = annotation_written s a.witness.now a.book.now a.annotation.now w.choice room w.keeps in
-    (c.before.before.before.before.before.before.before.write-for.ensures.1 ∙ rw e, c.before.before.annotate-tables.ensures.1 ∙ f)
+    (c.write_for.ensures.1 ∙ rw e, c.annotate_tables.ensures.1 ∙ f)
 
-pub put-found-spec : {M : Type 1} → statement M
-put-found-spec =
+pub put_found_spec : {M : Type 1} → statement M
+put_found_spec =
     tie.close
-    (tie.spec write-for-requires annotate-tables-requires same_length same-length-2 returns)
+    (tie.spec
+    write-for-requires
+    annotate-tables-requires
+    same_length
+    same-length-2
+    returns)
