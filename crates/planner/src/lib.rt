@@ -1,5 +1,6 @@
 // The public calls. Each takes whatever comes, and its contract says what it answers and what each lent buffer then holds.
 #![tactic(auto)]
+
 ghost use Rattle.std.specs.Prelude.{◌≡◌};
 ghost use Rattle.model.specs.Calls.{check_of, find_of, write_of, read_of, part_of, judge_of, annotate_of, AnnotatePath, join_of};
 ghost use Rattle.model.specs.Calls.{part as partIn};

@@ -9,11 +9,11 @@ use Rattle.planner.proofs.annotate.Statement.{statement}
 use Rattle.planner.proofs.annotate.Tie as tie
 
 -- `let reading = sheet::read(sheet)`
-read-requires : tie.Need-read-requires
+read-requires : tie.Need-read-reading-requires
 read-requires c κs = search rules
 
 -- `Reply::Refused(refusal) => judging::refused(refusal)`
-enum-known-answer : tie.Need-enum-known-answer
+enum-known-answer : tie.Need-enum_known-answer
 enum-known-answer c = search rules
 
 -- `Reply::Refused(refusal) => judging::refused(refusal)`
@@ -21,50 +21,43 @@ refused-requires : tie.Need-refused-requires
 refused-requires c κs = search rules
 
 -- `let read = reading.sheet`
-enum_told : tie.Need-enum-told
+enum_told : tie.Need-enum_told-1
 enum_told c = search rules
 
--- where the function is entered
-abbrev entry : tie.After-read → tie.Start
-entry r = r.before.before.before.before.before
-
 -- `judging::annotate_for(read, book, annotation, path)`
-annotate-for-requires : tie.Need-annotate-for-requires
+annotate-for-requires : tie.Need-annotate_for-requires
 annotate-for-requires c κs =
-    let k = c.before.before.before.before.before in
-    let r = k.read in
-    proper_is (entry k).args.sheet.now r.result r.ensures.0 c.before.before.before.enum_told.given.1 r.ensures.1
+    let r = c.read-reading in
+    proper_is c.args.sheet.now r.result r.ensures.0 c.in-Done.is r.ensures.1
 
 -- `match answer`
-returns : tie.Need-returns
+returns : tie.Need-returns-in-Refused
 unfolding annotate_of AnnotatePath book_and_rooms
 returns c =
-    let k = c.before.before.before.before in
-    let a = (entry k).args in
-    let r = k.read in
-    let e = refusal_is a.sheet.now r.result r.ensures.0 c.before.before.answer.given.0.0 c.before.before.answer.given.1 in
+    let a = c.args in
+    let r = c.read-reading in
+    let e = refusal_is a.sheet.now r.result r.ensures.0 c.in-Refused.refusal c.in-Refused.is in
     let d = due_refused a.annotation.now a.path.now (then_refused _ e) c.refused.ensures in
     (d.answer, (d.annotation, d.run))
 
 -- `match answer`
-same_length : tie.Need-same-length
+same_length : tie.Need-shape_of-annotation
 same_length c = search rules
 
 -- `match answer`
-same-length-2 : tie.Need-same-length-2
+same-length-2 : tie.Need-shape_of-path
 same-length-2 c = search rules
 
 -- `match answer`
-returns-2 : tie.Need-returns-2
+returns-2 : tie.Need-returns-in-Done
 unfolding annotate_of AnnotatePath book_and_rooms ◌then◌
 returns-2 c =
-    let k = c.before.before.before.before.before.before.before.before.before.before in
-    let r = k.read in
-    let e = c.before.before.before.before.annotate-for.ensures in
-    rw (sheet_is (entry k).args.sheet.now r.result r.ensures.0 c.before.before.before.before.before.before.before.before.enum_told.given.1) (e.0, (e.1.0, e.1.1))
+    let r = c.read-reading in
+    let e = c.annotate_for.ensures in
+    rw (sheet_is c.args.sheet.now r.result r.ensures.0 c.in-Done.is) (e.0, (e.1.0, e.1.1))
 
-pub annotate-spec : {M : Type 1} → statement M
-annotate-spec =
+pub annotate_spec : {M : Type 1} → statement M
+annotate_spec =
     tie.close
     (tie.spec
     read-requires

@@ -10,43 +10,33 @@ use Rattle.planner.proofs.fresh.Statement.{statement}
 use Rattle.planner.proofs.fresh.Tie as tie
 
 -- `let reading = sheet::read(sheet)`
-read-requires : tie.Need-read-requires
+read-requires : tie.Need-read-reading-requires
 read-requires c κs = search rules
 
 -- `answer: Reply::Refused(refusal)`
-enum-known-answer : tie.Need-enum-known-answer
+enum-known-answer : tie.Need-enum_known-answer
 enum-known-answer c = search rules
 
 -- `let read = reading.sheet`
-enum_told : tie.Need-enum-told
+enum_told : tie.Need-enum_told-1
 enum_told c = search rules
 
--- where the function is entered
-abbrev entry : tie.After-read → tie.Start
-entry r = r.before.before
-
 -- `desk: desk::fresh_for(a, desk)`
-fresh-for-requires : tie.Need-fresh-for-requires
+fresh-for-requires : tie.Need-fresh_for-requires
 fresh-for-requires c κs =
-    let t = c.before.before in
-    let r = t.before.before in
-    architecture_proper _ (proper_is (entry r).args.sheet.now r.read.result r.read.ensures.0 t.enum_told.given.1 r.read.ensures.1)
+    architecture_proper _ (proper_is c.args.sheet.now c.read-reading.result c.read-reading.ensures.0 c.in-Done.is c.read-reading.ensures.1)
 
 -- `match answer`
-returns : tie.Need-returns
+returns : tie.Need-returns-in-Refused
 unfolding fresh_of fresh_in
 returns c =
-    let k = c.before in
-    let r = k.before.before in
-    rw (refusal_is (entry r).args.sheet.now r.read.result r.read.ensures.0 k.answer.given.0.0 k.answer.given.1)
+    rw (refusal_is c.args.sheet.now c.read-reading.result c.read-reading.ensures.0 c.in-Refused.refusal c.in-Refused.is)
 
 -- `match answer`
-returns-2 : tie.Need-returns-2
+returns-2 : tie.Need-returns-in-Done
 unfolding fresh_of fresh_in
 returns-2 c =
-    let t = c.before.before.before in
-    let r = t.before.before in
-    rw (sheet_is (entry r).args.sheet.now r.read.result r.read.ensures.0 t.enum_told.given.1) (ap (λ (k : Desk). record { answer = Reply.Done; desk = k }) c.fresh-for.ensures)
+    rw (sheet_is c.args.sheet.now c.read-reading.result c.read-reading.ensures.0 c.in-Done.is) (ap (λ (k : Desk). record { answer = Reply.Done; desk = k }) c.fresh_for.ensures)
 
-pub fresh-spec : {M : Type 1} → statement M
-fresh-spec = tie.close (tie.spec read-requires enum-known-answer enum_told fresh-for-requires returns returns-2)
+pub fresh_spec : {M : Type 1} → statement M
+fresh_spec = tie.close (tie.spec read-requires enum-known-answer enum_told fresh-for-requires returns returns-2)

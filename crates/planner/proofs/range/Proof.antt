@@ -8,11 +8,11 @@ use Rattle.planner.proofs.range.Statement.{statement}
 use Rattle.planner.proofs.range.Tie as tie
 
 -- `let reading = sheet::read(sheet)`
-read-requires : tie.Need-read-requires
+read-requires : tie.Need-read-reading-requires
 read-requires c κs = search rules
 
 -- `Reply::Refused(refusal) => book::nowhere(refusal)`
-enum-known-answer : tie.Need-enum-known-answer
+enum-known-answer : tie.Need-enum_known-answer
 enum-known-answer c = search rules
 
 -- `Reply::Refused(refusal) => book::nowhere(refusal)`
@@ -20,35 +20,35 @@ nowhere-requires : tie.Need-nowhere-requires
 nowhere-requires c κs = search rules
 
 -- `let read = reading.sheet`
-enum_told : tie.Need-enum-told
+enum_told : tie.Need-enum_told-1
 enum_told c = search rules
 
 -- `book::range_for(a, book, process)`
-range-for-requires : tie.Need-range-for-requires
+range-for-requires : tie.Need-range_for-requires
 range-for-requires c κs =
-    let a = c.before.before.before.before.before.before.before.args in
-    let r = c.before.before.before.before.read in
-    architecture_proper _ (proper_is a.sheet.now r.result r.ensures.0 c.before.before.enum_told.given.1 r.ensures.1)
+    let a = c.args in
+    let r = c.read-reading in
+    architecture_proper _ (proper_is a.sheet.now r.result r.ensures.0 c.in-Done.is r.ensures.1)
 
 -- `match answer`
-returns : tie.Need-returns
+returns : tie.Need-returns-in-Refused
 unfolding part_of part_architecture ◌then◌ cut
 returns c =
-    let a = c.before.before.before.before.before.before.before.args in
-    let r = c.before.before.before.before.read in
-    let e = refusal_is a.sheet.now r.result r.ensures.0 c.before.before.answer.given.0.0 c.before.before.answer.given.1 in
+    let a = c.args in
+    let r = c.read-reading in
+    let e = refusal_is a.sheet.now r.result r.ensures.0 c.in-Refused.refusal c.in-Refused.is in
     rw e c.nowhere.ensures
 
 -- `match answer`
-returns-2 : tie.Need-returns-2
+returns-2 : tie.Need-returns-in-Done
 unfolding part_of part_architecture ◌then◌
 returns-2 c =
-    let a = c.before.before.before.before.before.before.before.before.args in
-    let r = c.before.before.before.before.before.read in
-    rw (sheet_is a.sheet.now r.result r.ensures.0 c.before.before.before.enum_told.given.1) c.range-for.ensures
+    let a = c.args in
+    let r = c.read-reading in
+    rw (sheet_is a.sheet.now r.result r.ensures.0 c.in-Done.is) c.range_for.ensures
 
-pub range-spec : {M : Type 1} → statement M
-range-spec =
+pub range_spec : {M : Type 1} → statement M
+range_spec =
     tie.close
     (tie.spec
     read-requires

@@ -8,11 +8,11 @@ use Rattle.planner.proofs.read.Statement.{statement}
 use Rattle.planner.proofs.read.Tie as tie
 
 -- `let reading = sheet::read(sheet)`
-read-requires : tie.Need-read-requires
+read-requires : tie.Need-read-reading-requires
 read-requires c κs = search rules
 
 -- `Reply::Refused(refusal) => book::unread(refusal)`
-enum-known-answer : tie.Need-enum-known-answer
+enum-known-answer : tie.Need-enum_known-answer
 enum-known-answer c = search rules
 
 -- `Reply::Refused(refusal) => book::unread(refusal)`
@@ -20,32 +20,32 @@ unread-requires : tie.Need-unread-requires
 unread-requires c κs = search rules
 
 -- `let read = reading.sheet`
-enum_told : tie.Need-enum-told
+enum_told : tie.Need-enum_told-1
 enum_told c = search rules
 
 -- `book::read_for(a, book)`
-read-for-requires : tie.Need-read-for-requires
+read-for-requires : tie.Need-read_for-requires
 read-for-requires c κs =
-    let a = c.before.before.before.before.before.before.before.args in
-    let r = c.before.before.before.before.read in
-    architecture_proper _ (proper_is a.sheet.now r.result r.ensures.0 c.before.before.enum_told.given.1 r.ensures.1)
+    let a = c.args in
+    let r = c.read-reading in
+    architecture_proper _ (proper_is a.sheet.now r.result r.ensures.0 c.in-Done.is r.ensures.1)
 
 -- `match answer`
-returns : tie.Need-returns
+returns : tie.Need-returns-in-Refused
 unfolding read_of ◌then◌
 returns c =
-    let a = c.before.before.before.before.before.before.before.args in
-    let r = c.before.before.before.before.read in
-    let e = refusal_is a.sheet.now r.result r.ensures.0 c.before.before.answer.given.0.0 c.before.before.answer.given.1 in
+    let a = c.args in
+    let r = c.read-reading in
+    let e = refusal_is a.sheet.now r.result r.ensures.0 c.in-Refused.refusal c.in-Refused.is in
     rw e c.unread.ensures
 
 -- `match answer`
-returns-2 : tie.Need-returns-2
+returns-2 : tie.Need-returns-in-Done
 unfolding read_of ◌then◌
 returns-2 c =
-    let a = c.before.before.before.before.before.before.before.before.args in
-    let r = c.before.before.before.before.before.read in
-    rw (sheet_is a.sheet.now r.result r.ensures.0 c.before.before.before.enum_told.given.1) c.read-for.ensures
+    let a = c.args in
+    let r = c.read-reading in
+    rw (sheet_is a.sheet.now r.result r.ensures.0 c.in-Done.is) c.read_for.ensures
 
 pub read_spec : {M : Type 1} → statement M
 read_spec =

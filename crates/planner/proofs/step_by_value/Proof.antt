@@ -7,11 +7,11 @@ use Rattle.planner.proofs.step_by_value.Statement.{statement}
 use Rattle.planner.proofs.step_by_value.Tie as tie
 
 -- `let reading = sheet::read(sheet)`
-read-requires : tie.Need-read-requires
+read-requires : tie.Need-read-reading-requires
 read-requires c κs = search rules
 
 -- `Reply::Refused(refusal) => desk::refused(refusal, desk)`
-enum-known-answer : tie.Need-enum-known-answer
+enum-known-answer : tie.Need-enum_known-answer
 enum-known-answer c = search rules
 
 -- `Reply::Refused(refusal) => desk::refused(refusal, desk)`
@@ -19,38 +19,28 @@ refused-requires : tie.Need-refused-requires
 refused-requires c κs = search rules
 
 -- `let read = reading.sheet`
-enum_told : tie.Need-enum-told
+enum_told : tie.Need-enum_told-1
 enum_told c = search rules
 
--- where the function is entered
-abbrev entry : tie.After-read → tie.Start
-entry r = r.before.before.before
-
 -- `desk::step_for(a, book, desk, direction)`
-step-for-requires : tie.Need-step-for-requires
+step-for-requires : tie.Need-step_for-requires
 step-for-requires c κs =
-    let t = c.before.before in
-    let r = t.before.before in
-    architecture_proper _ (proper_is (entry r).args.sheet.now r.read.result r.read.ensures.0 t.enum_told.given.1 r.read.ensures.1)
+    architecture_proper _ (proper_is c.args.sheet.now c.read-reading.result c.read-reading.ensures.0 c.in-Done.is c.read-reading.ensures.1)
 
 -- `match answer`
-returns : tie.Need-returns
+returns : tie.Need-returns-in-Refused
 unfolding step_of step_when_read
 returns c =
-    let k = c.before.before in
-    let r = k.before.before in
-    rw (refusal_is (entry r).args.sheet.now r.read.result r.read.ensures.0 k.answer.given.0.0 k.answer.given.1) c.refused.ensures
+    rw (refusal_is c.args.sheet.now c.read-reading.result c.read-reading.ensures.0 c.in-Refused.refusal c.in-Refused.is) c.refused.ensures
 
 -- `match answer`
-returns-2 : tie.Need-returns-2
+returns-2 : tie.Need-returns-in-Done
 unfolding step_of step_when_read
 returns-2 c =
-    let t = c.before.before.before in
-    let r = t.before.before in
-    rw (sheet_is (entry r).args.sheet.now r.read.result r.read.ensures.0 t.enum_told.given.1) c.step-for.ensures
+    rw (sheet_is c.args.sheet.now c.read-reading.result c.read-reading.ensures.0 c.in-Done.is) c.step_for.ensures
 
-pub step-by-value-spec : {M : Type 1} → statement M
-step-by-value-spec =
+pub step_by_value_spec : {M : Type 1} → statement M
+step_by_value_spec =
     tie.close
     (tie.spec
     read-requires
