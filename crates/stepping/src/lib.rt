@@ -1,5 +1,6 @@
 // What the desk program reads and prints: words of hexadecimal digits, a line for the start, and one for each direction.
 #![tactic(auto)]
+
 ghost use Rattle.std.specs.Prelude.{◌≡◌, ◌^◌, ◌<◌, ◌≤◌, length};
 ghost use Rattle.model.specs.Choice.{chosen, IsTables};
 ghost use Rattle.model.specs.Desk.{on_desk};

@@ -9,28 +9,28 @@ use Rattle.stepping.proofs.extended.Statement.{statement}
 use Rattle.stepping.proofs.extended.Tie as tie
 
 -- `let digit = digit_of(byte)`
-digit-of-requires : tie.Need-digit-of-requires
+digit-of-requires : tie.Need-digit_of-digit-requires
 digit-of-requires c κs = search rules
 
 -- `return no_direction()`
-no-direction-requires : tie.Need-no-direction-requires
+no-direction-requires : tie.Need-no_direction-requires
 no-direction-requires c κs = search rules
 
 -- `return no_direction()`
-returns : tie.Need-returns
+returns : tie.Need-returns-then-digit-eq16
 unfolding extended if
-returns c = rw (eq-eqb _ 16 (sym c.before.before.digit-of.ensures.0 ∙ c.before.if1.true), c.no-direction.ensures) (refl, omega arith)
+returns c = rw (eq-eqb _ 16 (sym c.digit_of-digit.ensures.0 ∙ c.if-digit-eq16.true), c.no_direction.ensures) (refl, omega arith)
 
 -- `longer(word, digit)`
 longer-requires : tie.Need-longer-requires
-longer-requires c κs = (c.before.before.requires, omega (arith, c.before.digit-of.ensures.1, c.if1.false))
+longer-requires c κs = (c.requires, omega (arith, c.digit_of-digit.ensures.1, c.if-digit-eq16.false))
 
 -- `longer(word, digit)`
-returns-2 : tie.Need-returns-2
+returns-2 : tie.Need-returns
 unfolding extended if
 returns-2 c =
-    let d = c.before.before.digit-of in
-    (rw (ne_eqb _ 16 (λ e. c.before.if1.false (d.ensures.0 ∙ e)), ← d.ensures.0) c.longer.ensures.0, c.longer.ensures.1)
+    let d = c.digit_of-digit in
+    (rw (ne_eqb _ 16 (λ e. c.if-digit-eq16.false (d.ensures.0 ∙ e)), ← d.ensures.0) c.longer.ensures.0, c.longer.ensures.1)
 
-pub extended-spec : {M : Type 1} → statement M
-extended-spec = tie.close (tie.spec digit-of-requires no-direction-requires returns longer-requires returns-2)
+pub extended_spec : {M : Type 1} → statement M
+extended_spec = tie.close (tie.spec digit-of-requires no-direction-requires returns longer-requires returns-2)

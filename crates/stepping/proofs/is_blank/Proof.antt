@@ -8,19 +8,19 @@ use Rattle.stepping.proofs.is_blank.Statement.{statement}
 use Rattle.stepping.proofs.is_blank.Tie as tie
 
 -- `if byte == b' '`
-returns : tie.Need-returns
+returns : tie.Need-returns-then-byte-eq32
 unfolding is_blank
-returns c = simp (eq-eqb _ 32 c.if1.true)
+returns c = simp (eq-eqb _ 32 c.if-byte-eq32.true)
 
 -- `if byte == b'\t'`
-returns-2 : tie.Need-returns-2
+returns-2 : tie.Need-returns-then-byte-eq9
 unfolding is_blank
-returns-2 c = simp (ne_eqb _ 32 c.before.if1.false, eq-eqb _ 9 c.if2.true)
+returns-2 c = simp (ne_eqb _ 32 c.if-byte-eq32.false, eq-eqb _ 9 c.if-byte-eq9.true)
 
 -- `if byte == b'\n'`
-returns-3 : tie.Need-returns-3
+returns-3 : tie.Need-returns-then-byte-eq10
 unfolding is_blank
-returns-3 c = simp (ne_eqb _ 32 c.before.before.if1.false, ne_eqb _ 9 c.before.if2.false, eq-eqb _ 10 c.if3.true)
+returns-3 c = simp (ne_eqb _ 32 c.if-byte-eq32.false, ne_eqb _ 9 c.if-byte-eq9.false, eq-eqb _ 10 c.if-byte-eq10.true)
 
 -- none of the others
 last : (b : ℕ) → (b ≡ 32 → ⊥) → (b ≡ 9 → ⊥) → (b ≡ 10 → ⊥) → eqb b 13 ≡ is_blank b
@@ -28,8 +28,8 @@ unfolding is_blank
 last b m n o = rw (ne_eqb b 32 m, ne_eqb b 9 n, ne_eqb b 10 o)
 
 -- `byte == b'\r'`
-returns-4 : tie.Need-returns-4
-returns-4 c = last _ c.before.before.if1.false c.before.if2.false c.if3.false
+returns-4 : tie.Need-returns
+returns-4 c = last _ c.if-byte-eq32.false c.if-byte-eq9.false c.if-byte-eq10.false
 
-pub is-blank-spec : {M : Type 1} → statement M
-is-blank-spec = tie.close (tie.spec returns returns-2 returns-3 returns-4)
+pub is_blank_spec : {M : Type 1} → statement M
+is_blank_spec = tie.close (tie.spec returns returns-2 returns-3 returns-4)

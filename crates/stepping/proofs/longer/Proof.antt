@@ -11,37 +11,37 @@ use Rattle.stepping.proofs.longer.Statement.{statement}
 use Rattle.stepping.proofs.longer.Tie as tie
 
 -- `return no_direction()`
-no-direction-requires : tie.Need-no-direction-requires
+no-direction-requires : tie.Need-no_direction-requires
 no-direction-requires c κs = search rules
 
 -- `return no_direction()`
-returns : tie.Need-returns
+returns : tie.Need-returns-then-word-gt1
 unfolding longer if
-returns c = rw (lt-ltb _ _ c.before.if1.true, c.no-direction.ensures) (refl, omega arith)
+returns c = rw (lt-ltb _ _ c.if-word-gt1.true, c.no_direction.ensures) (refl, omega arith)
 
 -- `digits: word.digits + 1`
-add-t4 : tie.Need-overflow-add-t4
+add-t4 : tie.Need-overflow_add-result
 add-t4 c = search rules
 
 -- where the function is entered
-abbrev entry : tie.After-struct-known3 → tie.Start
+abbrev entry : tie.After-struct_known-3-1 → tie.Start
 entry c = c.before.before.before.before
 
-small : (c : tie.After-struct-known3) → (entry c).args.word.value < 16
-small c = one_digit (entry c).args.word.digits _ c.before.before.if1.false (entry c).requires.0
+small : (c : tie.After-struct_known-3-1) → (entry c).args.word.value < 16
+small c = one_digit (entry c).args.word.digits _ c.if-word-gt1.false (entry c).requires.0
 
 -- `value: 16 * word.value + digit`
-mul-t5 : tie.Need-overflow-mul-t5
+mul-t5 : tie.Need-overflow_mul-result
 mul-t5 c = omega (arith, small c)
 
 -- `value: 16 * word.value + digit`
-add-t6 : tie.Need-overflow-add-t6
+add-t6 : tie.Need-overflow_add-result-2
 add-t6 c = omega (arith, small c, (entry c).requires.1)
 
 -- `Word { .. }`
-returns-2 : tie.Need-returns-2
+returns-2 : tie.Need-returns
 unfolding longer if
-returns-2 c = rw (le-ltb _ _ c.before.before.if1.false) (refl, digit_more (entry c).args.word.digits _ _ c.before.before.if1.false (entry c).requires.0 (entry c).requires.1)
+returns-2 c = rw (le-ltb _ _ c.if-word-gt1.false) (refl, digit_more (entry c).args.word.digits _ _ c.if-word-gt1.false (entry c).requires.0 (entry c).requires.1)
 
-pub longer-spec : {M : Type 1} → statement M
-longer-spec = tie.close (tie.spec no-direction-requires returns add-t4 mul-t5 add-t6 returns-2)
+pub longer_spec : {M : Type 1} → statement M
+longer_spec = tie.close (tie.spec no-direction-requires returns add-t4 mul-t5 add-t6 returns-2)

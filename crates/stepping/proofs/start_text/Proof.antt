@@ -21,84 +21,75 @@ use Rattle.stepping.proofs.LinesShort.{line_short}
 use Rattle.stepping.proofs.start_text.Statement.{statement}
 use Rattle.stepping.proofs.start_text.Tie as tie
 
-module _ (c : tie.After-label) where
+module _ (c : tie.After-label-label) where
   abbrev entry : tie.Start
   entry = c.before.before.before.before
 
   -- what is written
   abbrev line : List ℕ
-  line = with_states (ascii "start label % states") (c.label.result ∷ []) (take entry.args.a.processes (numbers c.before.initial.result.states))
+  line = with_states (ascii "start label % states") (c.label-label.result ∷ []) (take entry.args.a.processes (numbers c.initial-t.result.states))
 
   -- it is what is due
   line_is : let a = entry.args.a in line ≡ start_text (architecture_of a) (chosen (architecture_of a) entry.args.tables.now)
   unfolding start_text
   line_is =
-      let b = entry in
-      let a = b.args.a in
-      let i = c.before.initial in
+      let a = entry.args.a in
+      let i = c.initial-t in
       let t = composed_of a.processes i.result in
-      let own = label_chosen (architecture_of a) b.args.tables.now b.pre.1.1 t (state_in a i.result (facts b.pre.1.0).few_processes i.ensures.1) in
-      ap (λ (l : ℕ). with_states (ascii "start label % states") (l ∷ []) t.states) (c.label.ensures ∙ own)
-      ∙ ap (λ (u : compose.Composed). with_states (ascii "start label % states") (label (architecture_of a) (chosen (architecture_of a) b.args.tables.now) u ∷ []) u.states) i.ensures.0
+      let own = label_chosen (architecture_of a) entry.args.tables.now entry.requires.1.1 t (state_in a i.result (facts entry.requires.1.0).few_processes i.ensures.1) in
+      ap (λ (l : ℕ). with_states (ascii "start label % states") (l ∷ []) t.states) (c.label-label.ensures ∙ own)
+      ∙ ap (λ (u : compose.Composed). with_states (ascii "start label % states") (label (architecture_of a) (chosen (architecture_of a) entry.args.tables.now) u ∷ []) u.states) i.ensures.0
 
   short : length line ≤ 64
   unfolding longest
   short =
-      let b = entry in
-      let a = b.args.a in
-      let i = c.before.initial in
-      line_short (architecture_of a) (composed_of a.processes i.result) b.pre.1.0.proper (state_in a i.result (facts b.pre.1.0).few_processes i.ensures.1)
-      (ascii "start label % states") (c.label.result ∷ []) (omega (arith, c.label.type-inv), tt) (omega arith)
+      let a = entry.args.a in
+      let i = c.initial-t in
+      line_short (architecture_of a) (composed_of a.processes i.result) entry.requires.1.0.proper (state_in a i.result (facts entry.requires.1.0).few_processes i.ensures.1)
+      (ascii "start label % states") (c.label-label.result ∷ []) (omega (arith, c.label-label.type_inv), tt) (omega arith)
 
 -- `let t = Composed::initial(a)`
-initial-requires : tie.Need-initial-requires
+initial-requires : tie.Need-initial-t-requires
 initial-requires c κs = search rules
 
 -- `let label = t.label(a, tables)`
-label-requires : tie.Need-label-requires
+label-requires : tie.Need-label-label-requires
 label-requires c κs =
-    let b = c.before.before.before in
-    (b.requires.1.0, (c.initial.ensures.1.states_in, chosen_long (architecture_of b.args.a) b.args.tables.now b.requires.1.1))
+    (c.requires.1.0, (c.initial-t.ensures.1.states_in, chosen_long (architecture_of c.args.a) c.args.tables.now c.requires.1.1))
 
 -- `b"start label % states"`
-slice-aggregate-put-with-states : tie.Need-slice-aggregate-put-with-states
+slice-aggregate-put-with-states : tie.Need-slice_bounds-put_with_states-end-2
 slice-aggregate-put-with-states c = search rules
 
 -- `label as usize`
-cast-t12 : tie.Need-overflow-cast-t12
+cast-t12 : tie.Need-overflow_cast-label
 cast-t12 c = search rules
 
--- `&[label as usize]`
-slice-aggregate-put-with-states-2 : tie.Need-slice-aggregate-put-with-states-2
-slice-aggregate-put-with-states-2 c = search rules
-
 -- `put_with_states(..)`
-put-with-states-requires : tie.Need-put-with-states-requires
+put-with-states-requires : tie.Need-put_with_states-requires
 put-with-states-requires c κs =
-    let l = c.before.before.before in
+    let l = c.before.before.before.before in
     let b = entry l in
-    (((facts b.pre.1.0).few_processes, l.before.initial.ensures.1.states_in.long), omega (arith, short l, b.pre.0))
+    (((facts b.requires.1.0).few_processes, l.initial-t.ensures.1.states_in.long), omega (arith, short l, b.requires.0))
 
 -- `put_with_states(..)`
-same_length : tie.Need-same-length
+same_length : tie.Need-shape_of-text
 same_length c = search rules
 
 -- `put_with_states(..)`
 returns : tie.Need-returns
 returns c =
-    let p = c.before.before in
-    let l = p.before.before.before.before in
-    rw (line_is l) at (whole_text {text = line l} p.put-with-states.ensures p.put-with-states.auto.0 (omega (arith, short l, (entry l).requires.0)))
+    let l = c.before.before.before.before.before.before.before in
+    rw (line_is l) at (whole_text {text = line l} c.put_with_states.ensures c.put_with_states.auto.text (omega (arith, short l, (entry l).requires.0)))
 
-pub start-text-spec : {M : Type 1} → statement M
-start-text-spec =
+pub start_text_spec : {M : Type 1} → statement M
+start_text_spec =
     tie.close
     (tie.spec
     initial-requires
     label-requires
-    slice-aggregate-put-with-states
     cast-t12
-    slice-aggregate-put-with-states-2
+    slice-aggregate-put-with-states
     put-with-states-requires
     same_length
     returns)
