@@ -1,5 +1,6 @@
 // What the drawing program prints: a sheet, and with a book its tables, as one graph for Graphviz.
 #![tactic(auto)]
+
 ghost use Rattle.std.specs.Prelude.{◌≡◌, [], ◌+◌, ◌<◌, ◌≤◌, eqb, length};
 ghost use Rattle.model.specs.Mask.{if};
 ghost use Rattle.model.specs.Choice.{entries as entries_of};

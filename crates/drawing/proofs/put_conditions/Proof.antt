@@ -11,64 +11,64 @@ use Rattle.drawing.proofs.MovesInTurn.{conditions_from, conditions_open, conditi
 use Rattle.drawing.proofs.put_conditions.Statement.{statement}
 use Rattle.drawing.proofs.put_conditions.Tie as tie
 
-abbrev invariant-loop : tie.invariant-loop
+abbrev invariant-loop : tie.invariant-loop-index
 invariant-loop text₀ start mask y next at₀ index₀ text at index =
     Appending text₀ start (conditions_text mask y.0 next 0) at text (conditions_from mask y.0 next index)
 
-abbrev decreases-loop : tie.decreases-loop
+abbrev decreases-loop : tie.decreases-loop-index
 decreases-loop text₀ start mask y next at₀ index₀ text at index = length next - index
 
 -- `while index < next.len()`
-loop-holds : tie.Need-loop-init invariant-loop decreases-loop
+loop-holds : tie.Need-loop-index-init invariant-loop decreases-loop
 loop-holds c = appending_none _ _ _
 
 -- `at = put_way(text, at, mask, y, ProcessState(next[index]), index)`
-shared-slice-read-t13 : tie.Need-shared-slice-read-t13 invariant-loop decreases-loop
+shared-slice-read-t13 : tie.Need-bounds-next-index invariant-loop decreases-loop
 shared-slice-read-t13 c = omega arith
 
 -- the entry of the function
-abbrev entry : tie.At-loop invariant-loop decreases-loop → tie.Start invariant-loop decreases-loop
+abbrev entry : tie.At-loop-index invariant-loop decreases-loop → tie.Start invariant-loop decreases-loop
 entry c = c.before.before.before
 
 -- the condition of the index is due next
-next : (c : tie.In-loop invariant-loop decreases-loop) → let a = (entry c.before).args in let k = c.before.loop.index in
+next : (c : tie.In-loop-index invariant-loop decreases-loop) → let a = (entry c.before).args in let k = c.loop-index.index in
     Opens (conditions_from a.mask a.y.0 a.next.now k) (if (eqb (get_or a.next.now k 0) a.y.0) (condition_text a.mask k) [])
     (conditions_from a.mask a.y.0 a.next.now (k + 1))
-next c = let a = (entry c.before).args in conditions_open a.mask a.y.0 a.next.now c.before.loop.index c.loop-test.true
+next c = let a = (entry c.before).args in conditions_open a.mask a.y.0 a.next.now c.loop-index.index c.loop-index-test.true
 
 -- `at = put_way(text, at, mask, y, ProcessState(next[index]), index)`
-put-way-requires : tie.Need-put-way-requires invariant-loop decreases-loop
-put-way-requires c κs = let t = c.before.before in appending_room t.before.loop.invariant (entry t.before).pre (next t)
+put-way-requires : tie.Need-put_way-at-requires invariant-loop decreases-loop
+put-way-requires c κs = let t = c.before.before in appending_room t.loop-index.invariant (entry t.before).requires (next t)
 
 -- in the loop
-abbrev turn : tie.After-slice-known2 invariant-loop decreases-loop → tie.In-loop invariant-loop decreases-loop
+abbrev turn : tie.After-slice_known-in-loop-index-1 invariant-loop decreases-loop → tie.In-loop-index invariant-loop decreases-loop
 turn c = c.before.before.before.before.before
 
 -- `index += 1`
-add-index : tie.Need-overflow-add-index invariant-loop decreases-loop
-add-index c = omega (arith, (turn c).loop-test.true)
+add-index : tie.Need-overflow_add-index invariant-loop decreases-loop
+add-index c = omega (arith, (turn c).loop-index-test.true)
 
 -- `while index < next.len()`
-loop-less : tie.Need-loop-smaller invariant-loop decreases-loop
-loop-less c = omega (arith, (turn c).loop-test.true)
+loop-less : tie.Need-loop-index-smaller invariant-loop decreases-loop
+loop-less c = omega (arith, (turn c).loop-index-test.true)
 
 -- `while index < next.len()`
-loop-again : tie.Need-loop-preserved invariant-loop decreases-loop
-loop-again c = appending_next (turn c).before.loop.invariant (next (turn c)) c.before.before.put-way.ensures
+loop-again : tie.Need-loop-index-preserved invariant-loop decreases-loop
+loop-again c = appending_next (turn c).loop-index.invariant (next (turn c)) c.put_way-at.ensures
 
 -- `at`
-same_length : tie.Need-same-length invariant-loop decreases-loop
-same_length c = appending_length c.before.loop.invariant (entry c.before).pre
+same_length : tie.Need-shape_of-text invariant-loop decreases-loop
+same_length c = appending_length c.loop-index.invariant (entry c.before).requires
 
 -- `at`
 returns : tie.Need-returns invariant-loop decreases-loop
 returns c =
     let l = c.before in
     let a = (entry l).args in
-    appending_all (rw (conditions_end a.mask a.y.0 a.next.now l.loop.index c.loop-test.false) at l.loop.invariant)
+    appending_all (rw (conditions_end a.mask a.y.0 a.next.now l.loop-index.index c.loop-index-test.false) at l.loop-index.invariant)
 
-pub put-conditions-spec : {M : Type 1} → statement M
-put-conditions-spec =
+pub put_conditions_spec : {M : Type 1} → statement M
+put_conditions_spec =
     tie.close
     (tie.spec
     invariant-loop

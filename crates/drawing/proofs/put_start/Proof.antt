@@ -23,30 +23,33 @@ module _ (b : tie.Start) where
 
   room : 0 + length (front ++ automaton_text (automaton_of b.args.sheet.automaton)) ≤ length b.args.text.now
   unfolding start_text architecture_of automaton_of
-  room = omega (arith, rw counted at b.pre.1)
+  room = omega (arith, rw counted at b.requires.1)
 
 -- `let after_front = put_graph_front(text, a, u.states)`
-put-graph-front-requires : tie.Need-put-graph-front-requires
+put-graph-front-requires : tie.Need-put_graph_front-after_front-requires
 put-graph-front-requires c κs = let b = c.before.before.before.before in omega (arith, room_front _ _ (front b) _ (room b))
 
 -- `put_automaton(text, after_front, u)`
-put-automaton-requires : tie.Need-put-automaton-requires
+put-automaton-requires : tie.Need-put_automaton-requires
 put-automaton-requires c κs =
-    let f = c.before.before.before in
-    let b = f.before.before.before.before.before in
-    (b.requires.0.arrays.automaton, append_room f.put-graph-front.ensures _ (room b))
+    let b = c.before.before.before.before.before.before.before.before in
+    (b.requires.0.arrays.automaton, append_room c.put_graph_front-after_front.ensures _ (room b))
 
 -- `put_automaton(text, after_front, u)`
-same_length : tie.Need-same-length
+same_length : tie.Need-shape_of-text
 same_length c = search rules
 
 -- `put_automaton(text, after_front, u)`
 returns : tie.Need-returns
 unfolding start_text architecture_of automaton_of
 returns c =
-    let f = c.before.before.before.before.before.before in
-    rw (counted f.before.before.before.before.before) (append_more f.put-graph-front.ensures c.before.before.put-automaton.ensures)
+    rw (counted c.before.before.before.before.before.before.before.before.before.before.before) (append_more c.put_graph_front-after_front.ensures c.put_automaton.ensures)
 
-pub put-start-spec : {M : Type 1} → statement M
-put-start-spec =
-    tie.close (tie.spec put-graph-front-requires put-automaton-requires same_length returns)
+pub put_start_spec : {M : Type 1} → statement M
+put_start_spec =
+    tie.close
+    (tie.spec
+    put-graph-front-requires
+    put-automaton-requires
+    same_length
+    returns)

@@ -17,66 +17,66 @@ use Rattle.drawing.proofs.put_states.Tie as tie
 abbrev one : ℕ → ℕ → List ℕ
 one rejecting q = state_text q (bit rejecting q)
 
-abbrev invariant-loop : tie.invariant-loop
+abbrev invariant-loop : tie.invariant-loop-q
 invariant-loop text₀ start states rejecting left₀ at₀ q₀ text left at q =
     (left ≡ rejecting / 2 ^ q) × Appending text₀ start (states_text states rejecting) at text (text_from (one rejecting) states q)
 
-abbrev decreases-loop : tie.decreases-loop
+abbrev decreases-loop : tie.decreases-loop-q
 decreases-loop text₀ start states rejecting left₀ at₀ q₀ text left at q = states - q
 
 -- `while q < states`
-loop-holds : tie.Need-loop-init invariant-loop decreases-loop
+loop-holds : tie.Need-loop-q-init invariant-loop decreases-loop
 loop-holds c = (sym (div-one _), rw sub-zero (appending_none _ _ _))
 
 -- the entry of the function
-abbrev entry : tie.At-loop invariant-loop decreases-loop → tie.Start invariant-loop decreases-loop
+abbrev entry : tie.At-loop-q invariant-loop decreases-loop → tie.Start invariant-loop decreases-loop
 entry c = c.before.before
 
 -- state q is due next
-next : (c : tie.In-loop invariant-loop decreases-loop) → let a = (entry c.before).args in let l = c.before.loop in
+next : (c : tie.In-loop-q invariant-loop decreases-loop) → let a = (entry c.before).args in let l = c.loop-q in
     Opens (text_from (one a.rejecting) a.states l.q) (state_text l.q (eqb (l.left % 2) 1)) (text_from (one a.rejecting) a.states (l.q + 1))
 unfolding bit
 next c =
     let a = (entry c.before).args in
-    let l = c.before.loop in
-    from_open (one a.rejecting) a.states l.q _ (ap (λ (m : ℕ). state_text l.q (eqb (m % 2) 1)) l.invariant.0) c.loop-test.true
+    let l = c.loop-q in
+    from_open (one a.rejecting) a.states l.q _ (ap (λ (m : ℕ). state_text l.q (eqb (m % 2) 1)) l.invariant.0) c.loop-q-test.true
 
 -- `at = put_state(text, at, AutomatonState(q), left % 2 == 1)`
-put-state-requires : tie.Need-put-state-requires invariant-loop decreases-loop
-put-state-requires c κs = let l = c.before.before in appending_room l.loop.invariant.1 (entry l).requires (next c.before)
+put-state-requires : tie.Need-put_state-at-requires invariant-loop decreases-loop
+put-state-requires c κs = let l = c.before.before in appending_room l.loop-q.invariant.1 (entry l).requires (next c.before)
 
 -- in the loop
-abbrev turn : tie.After-slice-known2 invariant-loop decreases-loop → tie.In-loop invariant-loop decreases-loop
+abbrev turn : tie.After-slice_known-in-loop-q-1 invariant-loop decreases-loop → tie.In-loop-q invariant-loop decreases-loop
 turn c = c.before.before.before.before
 
 -- `q += 1`
-add-q : tie.Need-overflow-add-q invariant-loop decreases-loop
-add-q c = omega (arith, (turn c).loop-test.true, (entry (turn c).before).fits.states)
+add-q : tie.Need-overflow_add-q invariant-loop decreases-loop
+add-q c = omega (arith, (turn c).loop-q-test.true, (entry (turn c).before).ranges.states)
 
 -- `while q < states`
-loop-less : tie.Need-loop-smaller invariant-loop decreases-loop
-loop-less c = omega (arith, (turn c).loop-test.true)
+loop-less : tie.Need-loop-q-smaller invariant-loop decreases-loop
+loop-less c = omega (arith, (turn c).loop-q-test.true)
 
 -- `while q < states`
-loop-again : tie.Need-loop-preserved invariant-loop decreases-loop
+loop-again : tie.Need-loop-q-preserved invariant-loop decreases-loop
 loop-again c =
-    let l = (turn c).before.loop in
-    let lower = ap (λ (m : ℕ). m / 2) l.inv.0 ∙ div-div-eq-div-mul _ (2 ^ l.q) 2 in
-    (rw (add-one l.q, pow-suc 2 l.q) lower, appending_next l.inv.1 (next (turn c)) c.before.before.put-state.ensures)
+    let l = (turn c).loop-q in
+    let lower = ap (λ (m : ℕ). m / 2) l.invariant.0 ∙ div-div-eq-div-mul _ (2 ^ l.q) 2 in
+    (rw (add-one l.q, pow-suc 2 l.q) lower, appending_next l.invariant.1 (next (turn c)) c.put_state-at.ensures)
 
 -- `at`
-same_length : tie.Need-same-length invariant-loop decreases-loop
-same_length c = appending_length c.before.loop.invariant.1 (entry c.before).pre
+same_length : tie.Need-shape_of-text invariant-loop decreases-loop
+same_length c = appending_length c.loop-q.invariant.1 (entry c.before).requires
 
 -- `at`
 returns : tie.Need-returns invariant-loop decreases-loop
 returns c =
     let l = c.before in
     let a = (entry l).args in
-    appending_all (rw (from_end (one a.rejecting) a.states l.loop.q c.loop-test.false) at l.loop.invariant.1)
+    appending_all (rw (from_end (one a.rejecting) a.states l.loop-q.q c.loop-q-test.false) at l.loop-q.invariant.1)
 
-pub put-states-spec : {M : Type 1} → statement M
-put-states-spec =
+pub put_states_spec : {M : Type 1} → statement M
+put_states_spec =
     tie.close
     (tie.spec
     invariant-loop

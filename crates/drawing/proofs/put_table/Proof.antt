@@ -20,57 +20,52 @@ module _ (b : tie.Start) where
 
   room-all : b.args.at + length (two ++ cluster_end) ≤ length b.args.text.now
   unfolding table_text
-  room-all = b.pre.1.1.1
+  room-all = b.requires.1.1.1
 
   room-two : b.args.at + length two ≤ length b.args.text.now
   room-two = room_front _ _ two _ room-all
 
 -- ---- back from each part
-abbrev entry : tie.After-put-table-front → tie.Start
+abbrev entry : tie.After-put_table_front-after_front → tie.Start
 entry c = c.before.before.before.before
 
-module _ (c : tie.After-put-rows) where
+module _ (c : tie.After-put_rows-after_rows) where
   abbrev start₂ : tie.Start
   start₂ = entry c.before.before.before.before
 
-  tabled : Appends start₂.args.text.now start₂.args.at (two start₂) c.put-rows.result c.put-rows.new.0
-  tabled = append_more c.before.before.before.before.put-table-front.ensures c.put-rows.ensures
+  tabled : Appends start₂.args.text.now start₂.args.at (two start₂) c.put_rows-after_rows.result c.put_rows-after_rows.new.text
+  tabled = append_more c.put_table_front-after_front.ensures c.put_rows-after_rows.ensures
 
 -- `let after_front = put_table_front(text, at, a, i)`
-put-table-front-requires : tie.Need-put-table-front-requires
+put-table-front-requires : tie.Need-put_table_front-after_front-requires
 put-table-front-requires c κs = let b = c.before.before.before in (b.requires.0, (b.requires.1.0, room_front _ _ (front b) _ (room-two b)))
 
 -- `let after_rows = put_rows(text, after_front, a, i, tables)`
-put-rows-requires : tie.Need-put-rows-requires
+put-rows-requires : tie.Need-put_rows-after_rows-requires
 put-rows-requires c κs =
     let f = c.before.before.before in
     let b = entry f in
-    (b.pre.0, (b.pre.1.0, (b.pre.1.1.0, append_room f.put-table-front.ensures _ (room-two b))))
+    (b.requires.0, (b.requires.1.0, (b.requires.1.1.0, append_room f.put_table_front-after_front.ensures _ (room-two b))))
 
 -- `put_bytes(text, after_rows, b"    }\n")`
-slice-aggregate-put-bytes : tie.Need-slice-aggregate-put-bytes
-slice-aggregate-put-bytes c = search rules
+put-bytes-requires : tie.Need-put_bytes-requires
+put-bytes-requires c κs = let r = c.before.before.before.before.before in append_room (tabled r) _ (room-all (start₂ r))
 
 -- `put_bytes(text, after_rows, b"    }\n")`
-put-bytes-requires : tie.Need-put-bytes-requires
-put-bytes-requires c κs = let r = c.before.before.before.before in append_room (tabled r) _ (room-all (start₂ r))
-
--- `put_bytes(text, after_rows, b"    }\n")`
-same_length : tie.Need-same-length
+same_length : tie.Need-shape_of-text
 same_length c = search rules
 
 -- `put_bytes(text, after_rows, b"    }\n")`
 returns : tie.Need-returns
 unfolding table_text
-returns c = append_more (tabled c.before.before.before.before.before.before.before) c.before.before.put-bytes.ensures
+returns c = append_more (tabled c.before.before.before.before.before.before.before.before) c.put_bytes.ensures
 
-pub put-table-spec : {M : Type 1} → statement M
-put-table-spec =
+pub put_table_spec : {M : Type 1} → statement M
+put_table_spec =
     tie.close
     (tie.spec
     put-table-front-requires
     put-rows-requires
-    slice-aggregate-put-bytes
     put-bytes-requires
     same_length
     returns)

@@ -7,23 +7,23 @@ use Rattle.drawing.proofs.put_way.Statement.{statement}
 use Rattle.drawing.proofs.put_way.Tie as tie
 
 -- `return put_condition(text, at, mask, index)`
-put-condition-requires : tie.Need-put-condition-requires
+put-condition-requires : tie.Need-put_condition-requires
 unfolding if
-put-condition-requires c κs = rw (eq-eqb _ _ c.before.if1.true) at c.before.before.before.before.before.requires
+put-condition-requires c κs = rw (eq-eqb _ _ c.if-z-y.true) at c.requires
 
 -- `return put_condition(text, at, mask, index)`
-same_length : tie.Need-same-length
+same_length : tie.Need-shape_of-text-then-z-y
 same_length c = search rules
 
 -- `return put_condition(text, at, mask, index)`
-returns : tie.Need-returns
+returns : tie.Need-returns-then-z-y
 unfolding if
-returns c = rw (eq-eqb _ _ c.before.before.before.before.if1.true) c.before.before.put-condition.ensures
+returns c = rw (eq-eqb _ _ c.if-z-y.true) c.put_condition.ensures
 
 -- `at`
-returns-2 : tie.Need-returns-2
+returns-2 : tie.Need-returns
 unfolding if
-returns-2 c = rw (ne_eqb _ _ c.if1.false) (append_none _ _)
+returns-2 c = rw (ne_eqb _ _ c.if-z-y.false) (append_none _ _)
 
-pub put-way-spec : {M : Type 1} → statement M
-put-way-spec = tie.close (tie.spec put-condition-requires same_length returns returns-2)
+pub put_way_spec : {M : Type 1} → statement M
+put_way_spec = tie.close (tie.spec put-condition-requires same_length returns returns-2)

@@ -16,32 +16,30 @@ short : (b : tie.Start) → length (sheet_text (sheet_of b.args.sheet)) ≤ leng
 short b = omega (arith, sheet_short (sheet_of b.args.sheet) b.requires.1.proper, b.requires.0)
 
 -- `let after_start = put_start(text, sheet)`
-put-start-requires : tie.Need-put-start-requires
+put-start-requires : tie.Need-put_start-after_start-requires
 put-start-requires c κs = let b = c.before.before in (b.requires.1, omega (arith, simp length-append at (short b)))
 
 -- `put_bytes(text, after_start, b"}\n")`
-slice-aggregate-put-bytes : tie.Need-slice-aggregate-put-bytes
-slice-aggregate-put-bytes c = search rules
-
--- `put_bytes(text, after_start, b"}\n")`
-put-bytes-requires : tie.Need-put-bytes-requires
+put-bytes-requires : tie.Need-put_bytes-requires
 put-bytes-requires c κs =
-    let s = c.before.before.before.before in
-    omega (arith, simp length-append at (short s.before.before.before), s.put-start.ensures.ends, s.put-start.auto.0)
+    omega (arith, simp length-append at (short c.before.before.before.before.before.before.before.before), c.put_start-after_start.ensures.ends, c.put_start-after_start.auto.text)
 
 -- `put_bytes(text, after_start, b"}\n")`
-same_length : tie.Need-same-length
+same_length : tie.Need-shape_of-text
 same_length c = search rules
 
 -- `put_bytes(text, after_start, b"}\n")`
 returns : tie.Need-returns
 returns c =
-    let e = c.before.before.put-bytes in
-    let s = c.before.before.before.before.before.before.before in
-    let whole = append_more (append_more s.put-start.ensures (append_none _ _)) e.ensures in
-    whole_text whole (omega (arith, e.auto.0, s.put-start.auto.0)) (short s.before.before.before)
+    let e = c.put_bytes in
+    let whole = append_more (append_more c.put_start-after_start.ensures (append_none _ _)) e.ensures in
+    whole_text whole (omega (arith, e.auto.text, c.put_start-after_start.auto.text)) (short c.before.before.before.before.before.before.before.before.before.before.before)
 
-pub sheet-text-spec : {M : Type 1} → statement M
-sheet-text-spec =
+pub sheet_text_spec : {M : Type 1} → statement M
+sheet_text_spec =
     tie.close
-    (tie.spec put-start-requires slice-aggregate-put-bytes put-bytes-requires same_length returns)
+    (tie.spec
+    put-start-requires
+    put-bytes-requires
+    same_length
+    returns)
