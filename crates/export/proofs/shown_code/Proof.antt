@@ -6,7 +6,7 @@ use Rattle.export.proofs.shown_code.Statement.{statement}
 use Rattle.export.proofs.shown_code.Tie as tie
 
 -- `Shown::Refused(refusal) => refusal.number()`
-enum-known-shown : tie.Need-enum-known-shown
+enum-known-shown : tie.Need-enum_known-shown
 enum-known-shown c = search rules
 
 -- `Shown::Refused(refusal) => refusal.number()`
@@ -14,24 +14,24 @@ number-requires : tie.Need-number-requires
 number-requires c κs = search rules
 
 -- `Shown::Label(label) => 65536 + label as u32`
-enum-known-shown-2 : tie.Need-enum-known-shown-2
+enum-known-shown-2 : tie.Need-enum_known-shown-in-Label-1
 enum-known-shown-2 c = search rules
 
 -- `Shown::Label(label) => 65536 + label as u32`
-cast-result : tie.Need-overflow-cast-result
+cast-result : tie.Need-overflow_cast-result
 cast-result c = search rules
 
 -- `Shown::Label(label) => 65536 + label as u32`
-add-result : tie.Need-overflow-add-result
+add-result : tie.Need-overflow_add-result
 add-result c = search rules
 
 -- `match shown`
-returns : tie.Need-returns
-returns c = c.number.ensures ∙ sym (ap shown_code c.before.before.shown.given.1)
+returns : tie.Need-returns-in-Refused
+returns c = c.number.ensures ∙ sym (ap shown_code c.in-Refused.is)
 
 -- `match shown`
-returns-2 : tie.Need-returns-2
-returns-2 c = sym (ap shown_code c.before.shown2.given.1)
+returns-2 : tie.Need-returns-in-Label
+returns-2 c = sym (ap shown_code c.in-Label.is)
 
-pub shown-code-spec : {M : Type 1} → statement M
-shown-code-spec = tie.close (tie.spec enum-known-shown number-requires enum-known-shown-2 cast-result add-result returns returns-2)
+pub shown_code_spec : {M : Type 1} → statement M
+shown_code_spec = tie.close (tie.spec enum-known-shown number-requires enum-known-shown-2 cast-result add-result returns returns-2)

@@ -10,12 +10,12 @@ check-requires : tie.Need-check-requires
 check-requires c κs = search rules
 
 -- `reply_code(planner::check(sheet))`
-reply-code-requires : tie.Need-reply-code-requires
+reply-code-requires : tie.Need-reply_code-requires
 reply-code-requires c κs = search rules
 
 -- `reply_code(planner::check(sheet))`
 returns : tie.Need-returns
-returns c = c.reply-code.ensures ∙ ap reply_code c.before.check.ensures
+returns c = c.reply_code.ensures ∙ ap reply_code c.check.ensures
 
-pub soclethyme-check-spec : {M : Type 1} → statement M
-soclethyme-check-spec = tie.close (tie.spec check-requires reply-code-requires returns)
+pub soclethyme_check_spec : {M : Type 1} → statement M
+soclethyme_check_spec = tie.close (tie.spec check-requires reply-code-requires returns)

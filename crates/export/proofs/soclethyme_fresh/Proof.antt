@@ -10,19 +10,19 @@ use Rattle.export.proofs.soclethyme_fresh.Statement.{statement}
 use Rattle.export.proofs.soclethyme_fresh.Tie as tie
 
 -- `desk_of(*desk)`
-desk-of-requires : tie.Need-desk-of-requires
+desk-of-requires : tie.Need-desk_of-requires
 desk-of-requires c κs = search rules
 
 -- `let fresh = planner::fresh(sheet, ..)`
-fresh-requires : tie.Need-fresh-requires
+fresh-requires : tie.Need-fresh-fresh-requires
 fresh-requires c κs = search rules
 
 -- `*desk = bytes_of(fresh.desk)`
-bytes-of-requires : tie.Need-bytes-of-requires
+bytes-of-requires : tie.Need-bytes_of-requires
 bytes-of-requires c κs = search rules
 
 -- `reply_code(answer)`
-reply-code-requires : tie.Need-reply-code-requires
+reply-code-requires : tie.Need-reply_code-requires
 reply-code-requires c κs = search rules
 
 -- `reply_code(answer)`
@@ -30,9 +30,9 @@ returns : tie.Need-returns
 returns c =
     let b = c.before in
     let f = b.before in
-    let sheet = f.before.before.before.before.args.sheet.now in
-    let due : f.fresh.result ≡ fresh_of sheet (desk_of f.before.before.before.before.args.desk.now) = f.fresh.ensures ∙ ap (λ (k : Desk). fresh_of sheet k) f.before.desk-of.ensures in
-    (c.reply-code.ensures ∙ ap (λ (x : FreshDesk). reply_code x.answer) due, b.bytes_of.ensures ∙ ap (λ (x : FreshDesk). bytes_of x.desk) due)
+    let sheet = f.args.sheet.now in
+    let due : f.fresh-fresh.result ≡ fresh_of sheet (desk_of f.args.desk.now) = f.fresh-fresh.ensures ∙ ap (λ (k : Desk). fresh_of sheet k) f.desk_of.ensures in
+    (c.reply_code.ensures ∙ ap (λ (x : FreshDesk). reply_code x.answer) due, b.bytes_of.ensures ∙ ap (λ (x : FreshDesk). bytes_of x.desk) due)
 
-pub soclethyme-fresh-spec : {M : Type 1} → statement M
-soclethyme-fresh-spec = tie.close (tie.spec desk-of-requires fresh-requires bytes-of-requires reply-code-requires returns)
+pub soclethyme_fresh_spec : {M : Type 1} → statement M
+soclethyme_fresh_spec = tie.close (tie.spec desk-of-requires fresh-requires bytes-of-requires reply-code-requires returns)

@@ -10,16 +10,16 @@ join-requires : tie.Need-join-requires
 join-requires c κs = search rules
 
 -- `written_code(planner::join(first, second, sheet))`
-written-code-requires : tie.Need-written-code-requires
+written-code-requires : tie.Need-written_code-requires
 written-code-requires c κs = search rules
 
 -- `written_code(planner::join(first, second, sheet))`
-same_length : tie.Need-same-length
+same_length : tie.Need-shape_of-sheet
 same_length c = search rules
 
 -- `written_code(planner::join(first, second, sheet))`
 returns : tie.Need-returns
-returns c = let j = c.before.before.before.join.ensures in (c.written-code.ensures ∙ ap written_code j.0, j.1)
+returns c = let j = c.join.ensures in (c.written_code.ensures ∙ ap written_code j.0, j.1)
 
-pub soclethyme-join-spec : {M : Type 1} → statement M
-soclethyme-join-spec = tie.close (tie.spec join-requires written-code-requires same_length returns)
+pub soclethyme_join_spec : {M : Type 1} → statement M
+soclethyme_join_spec = tie.close (tie.spec join-requires written-code-requires same_length returns)

@@ -10,12 +10,12 @@ judge-requires : tie.Need-judge-requires
 judge-requires c κs = search rules
 
 -- `verdict_code(planner::judge(sheet, book, annotation))`
-verdict-code-requires : tie.Need-verdict-code-requires
+verdict-code-requires : tie.Need-verdict_code-requires
 verdict-code-requires c κs = search rules
 
 -- `verdict_code(planner::judge(sheet, book, annotation))`
 returns : tie.Need-returns
-returns c = c.verdict-code.ensures ∙ ap verdict_code c.before.judge.ensures
+returns c = c.verdict_code.ensures ∙ ap verdict_code c.judge.ensures
 
-pub soclethyme-judge-spec : {M : Type 1} → statement M
-soclethyme-judge-spec = tie.close (tie.spec judge-requires verdict-code-requires returns)
+pub soclethyme_judge_spec : {M : Type 1} → statement M
+soclethyme_judge_spec = tie.close (tie.spec judge-requires verdict-code-requires returns)

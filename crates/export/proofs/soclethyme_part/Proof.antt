@@ -13,11 +13,11 @@ use Rattle.export.proofs.soclethyme_part.Statement.{statement}
 use Rattle.export.proofs.soclethyme_part.Tie as tie
 
 -- `let range = planner::range(sheet, book, process)`
-range-requires : tie.Need-range-requires
+range-requires : tie.Need-range-range-requires
 range-requires c κs = search rules
 
 -- `Reply::Refused(refusal) => refusal.number()`
-enum-known-answer : tie.Need-enum-known-answer
+enum-known-answer : tie.Need-enum_known-answer
 enum-known-answer c = search rules
 
 -- `Reply::Refused(refusal) => refusal.number()`
@@ -25,57 +25,57 @@ number-requires : tie.Need-number-requires
 number-requires c κs = search rules
 
 -- `Reply::Done => range.end as u32 * 65536 + range.start as u32`
-enum_told : tie.Need-enum-told
+enum_told : tie.Need-enum_told-1
 enum_told c = search rules
 
 -- ---- positions: where the function is entered, and where the planner has given the range
-abbrev entry : tie.After-range → tie.Start
+abbrev entry : tie.After-range-range → tie.Start
 entry r = r.before.before.before
 
-abbrev given : tie.After-struct-known → tie.After-range
-given c = c.before.before.before
+abbrev given : tie.After-struct_known-1 → tie.After-range-range
+given c = c.before.before
 
 -- where the part is
-inside : (r : tie.After-range) → Within (after_part r.range.result) (entry r).args.book.now
-inside r = let a = (entry r).args in rw r.range.ensures (part_within a.sheet.now a.book.now a.process)
+inside : (r : tie.After-range-range) → Within (after_part r.range-range.result) (entry r).args.book.now
+inside r = let a = (entry r).args in rw r.range-range.ensures (part_within a.sheet.now a.book.now a.process)
 
 -- the answer is that of `part_of`
-answered : (r : tie.After-range) (x : Reply) → r.range.result.answer ≡ x → let a = (entry r).args in (part_of a.sheet.now a.book.now a.process).answer ≡ x
-answered r x e = sym (ap (λ (y : AfterPart). y.answer) r.range.ensures) ∙ e
+answered : (r : tie.After-range-range) (x : Reply) → r.range-range.result.answer ≡ x → let a = (entry r).args in (part_of a.sheet.now a.book.now a.process).answer ≡ x
+answered r x e = sym (ap (λ (y : AfterPart). y.answer) r.range-range.ensures) ∙ e
 
 -- `Reply::Done => range.end as u32 * 65536 + range.start as u32`
-cast-result : tie.Need-overflow-cast-result
+cast-result : tie.Need-overflow_cast-result
 cast-result c = omega (arith, (inside (given c)).short)
 
 -- `Reply::Done => range.end as u32 * 65536 + range.start as u32`
-mul-result : tie.Need-overflow-mul-result
+mul-result : tie.Need-overflow_mul-result
 mul-result c = omega (arith, (inside (given c)).short)
 
 -- `Reply::Done => range.end as u32 * 65536 + range.start as u32`
-cast-result-2 : tie.Need-overflow-cast-result-2
+cast-result-2 : tie.Need-overflow_cast-result-in-Done
 cast-result-2 c = let i = inside (given c.before) in omega (arith, i.rising, i.short)
 
 -- `Reply::Done => range.end as u32 * 65536 + range.start as u32`
-add-result : tie.Need-overflow-add-result
+add-result : tie.Need-overflow_add-result
 add-result c = let i = inside (given c.before) in omega (arith, i.rising, i.short)
 
 -- `match answer`
-returns : tie.Need-returns
+returns : tie.Need-returns-in-Refused
 unfolding part_by
 returns c =
-    let e = answered c.before.before.before.before _ c.before.before.answer.given.1 in
+    let e = answered c.before.before _ c.in-Refused.is in
     rw e c.number.ensures
 
 -- `match answer`
-returns-2 : tie.Need-returns-2
+returns-2 : tie.Need-returns-in-Done
 unfolding part_by
 returns-2 c =
     let r = given c.before in
-    let e = answered r _ c.before.before.enum_told.given.1 in
-    rw e (ap (λ (x : AfterPart). x.end * 65536 + x.start) r.range.ensures)
+    let e = answered r _ c.in-Done.is in
+    rw e (ap (λ (x : AfterPart). x.end * 65536 + x.start) r.range-range.ensures)
 
-pub soclethyme-part-spec : {M : Type 1} → statement M
-soclethyme-part-spec =
+pub soclethyme_part_spec : {M : Type 1} → statement M
+soclethyme_part_spec =
     tie.close
     (tie.spec
     range-requires

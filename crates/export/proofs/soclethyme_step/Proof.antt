@@ -10,19 +10,19 @@ use Rattle.export.proofs.soclethyme_step.Statement.{statement}
 use Rattle.export.proofs.soclethyme_step.Tie as tie
 
 -- `desk_of(*desk)`
-desk-of-requires : tie.Need-desk-of-requires
+desk-of-requires : tie.Need-desk_of-requires
 desk-of-requires c κs = search rules
 
 -- `let next = planner::step_by_value(sheet, book, .., direction)`
-step-by-value-requires : tie.Need-step-by-value-requires
+step-by-value-requires : tie.Need-step_by_value-next-requires
 step-by-value-requires c κs = search rules
 
 -- `*desk = bytes_of(next.desk)`
-bytes-of-requires : tie.Need-bytes-of-requires
+bytes-of-requires : tie.Need-bytes_of-requires
 bytes-of-requires c κs = search rules
 
 -- `shown_code(answer)`
-shown-code-requires : tie.Need-shown-code-requires
+shown-code-requires : tie.Need-shown_code-requires
 shown-code-requires c κs = search rules
 
 -- `shown_code(answer)`
@@ -30,10 +30,10 @@ returns : tie.Need-returns
 returns c =
     let b = c.before in
     let s = b.before in
-    let a = s.before.before.before.before.before.args in
-    let due : s.step-by-value.result ≡ step_of a.sheet.now a.book.now (desk_of a.desk.now) a.direction =
-    s.step-by-value.ensures ∙ ap (λ (k : Desk). step_of a.sheet.now a.book.now k a.direction) s.before.desk-of.ensures in
-    (c.shown-code.ensures ∙ ap (λ (x : Stepped). shown_code x.answer) due, b.bytes_of.ensures ∙ ap (λ (x : Stepped). bytes_of x.desk) due)
+    let a = s.args in
+    let due : s.step_by_value-next.result ≡ step_of a.sheet.now a.book.now (desk_of a.desk.now) a.direction =
+    s.step_by_value-next.ensures ∙ ap (λ (k : Desk). step_of a.sheet.now a.book.now k a.direction) s.desk_of.ensures in
+    (c.shown_code.ensures ∙ ap (λ (x : Stepped). shown_code x.answer) due, b.bytes_of.ensures ∙ ap (λ (x : Stepped). bytes_of x.desk) due)
 
-pub soclethyme-step-spec : {M : Type 1} → statement M
-soclethyme-step-spec = tie.close (tie.spec desk-of-requires step-by-value-requires bytes-of-requires shown-code-requires returns)
+pub soclethyme_step_spec : {M : Type 1} → statement M
+soclethyme_step_spec = tie.close (tie.spec desk-of-requires step-by-value-requires bytes-of-requires shown-code-requires returns)

@@ -10,16 +10,16 @@ write-requires : tie.Need-write-requires
 write-requires c κs = search rules
 
 -- `reply_code(planner::write(sheet, tables, book))`
-reply-code-requires : tie.Need-reply-code-requires
+reply-code-requires : tie.Need-reply_code-requires
 reply-code-requires c κs = search rules
 
 -- `reply_code(planner::write(sheet, tables, book))`
-same_length : tie.Need-same-length
+same_length : tie.Need-shape_of-book
 same_length c = search rules
 
 -- `reply_code(planner::write(sheet, tables, book))`
 returns : tie.Need-returns
-returns c = let w = c.before.before.before.write.ensures in (c.reply-code.ensures ∙ ap reply_code w.0, w.1)
+returns c = let w = c.write.ensures in (c.reply_code.ensures ∙ ap reply_code w.0, w.1)
 
-pub soclethyme-write-spec : {M : Type 1} → statement M
-soclethyme-write-spec = tie.close (tie.spec write-requires reply-code-requires same_length returns)
+pub soclethyme_write_spec : {M : Type 1} → statement M
+soclethyme_write_spec = tie.close (tie.spec write-requires reply-code-requires same_length returns)

@@ -6,7 +6,7 @@ use Rattle.export.proofs.verdict_code.Statement.{statement}
 use Rattle.export.proofs.verdict_code.Tie as tie
 
 -- `Verdict::Refused(refusal) => refusal.number()`
-enum-known-verdict : tie.Need-enum-known-verdict
+enum-known-verdict : tie.Need-enum_known-verdict
 enum-known-verdict c = search rules
 
 -- `Verdict::Refused(refusal) => refusal.number()`
@@ -14,23 +14,23 @@ number-requires : tie.Need-number-requires
 number-requires c κs = search rules
 
 -- `Verdict::Found(finding) => finding_code(finding)`
-enum-known-verdict-2 : tie.Need-enum-known-verdict-2
+enum-known-verdict-2 : tie.Need-enum_known-verdict-in-Found-1
 enum-known-verdict-2 c = search rules
 
 -- `Verdict::Found(finding) => finding_code(finding)`
-finding-code-requires : tie.Need-finding-code-requires
+finding-code-requires : tie.Need-finding_code-requires
 finding-code-requires c κs = search rules
 
 -- `match verdict`
-returns : tie.Need-returns
-returns c = c.number.ensures ∙ sym (ap verdict_code c.before.before.verdict.given.1)
+returns : tie.Need-returns-in-Refused
+returns c = c.number.ensures ∙ sym (ap verdict_code c.in-Refused.is)
 
 -- `match verdict`
-returns-2 : tie.Need-returns-2
+returns-2 : tie.Need-returns-in-Found
 returns-2 c = search rules
 
-pub verdict-code-spec : {M : Type 1} → statement M
-verdict-code-spec =
+pub verdict_code_spec : {M : Type 1} → statement M
+verdict_code_spec =
     tie.close
     (tie.spec
     enum-known-verdict

@@ -6,7 +6,7 @@ use Rattle.export.proofs.written_code.Statement.{statement}
 use Rattle.export.proofs.written_code.Tie as tie
 
 -- `Written::Refused(refusal) => refusal.number()`
-enum-known-written : tie.Need-enum-known-written
+enum-known-written : tie.Need-enum_known-written
 enum-known-written c = search rules
 
 -- `Written::Refused(refusal) => refusal.number()`
@@ -14,27 +14,27 @@ number-requires : tie.Need-number-requires
 number-requires c κs = search rules
 
 -- `Written::Length(length) => 65536 + length as u32`
-enum-known-written-2 : tie.Need-enum-known-written-2
+enum-known-written-2 : tie.Need-enum_known-written-in-Length-1
 enum-known-written-2 c = search rules
 
 -- `Written::Length(length) => 65536 + length as u32`
-cast-result : tie.Need-overflow-cast-result
+cast-result : tie.Need-overflow_cast-result
 cast-result c = search rules
 
 -- `Written::Length(length) => 65536 + length as u32`
-add-result : tie.Need-overflow-add-result
+add-result : tie.Need-overflow_add-result
 add-result c = search rules
 
 -- `match written`
-returns : tie.Need-returns
-returns c = c.number.ensures ∙ sym (ap written_code c.before.before.written.given.1)
+returns : tie.Need-returns-in-Refused
+returns c = c.number.ensures ∙ sym (ap written_code c.in-Refused.is)
 
 -- `match written`
-returns-2 : tie.Need-returns-2
-returns-2 c = sym (ap written_code c.before.written2.given.1)
+returns-2 : tie.Need-returns-in-Length
+returns-2 c = sym (ap written_code c.in-Length.is)
 
-pub written-code-spec : {M : Type 1} → statement M
-written-code-spec =
+pub written_code_spec : {M : Type 1} → statement M
+written_code_spec =
     tie.close
     (tie.spec
     enum-known-written
