@@ -5,11 +5,11 @@ use Rattle.cause.proofs.is_faulty.Statement.{statement}
 use Rattle.cause.proofs.is_faulty.Tie as tie
 
 -- `let reply = planner::check(sheet)`
-check-requires : tie.Need-check-requires
+check-requires : tie.Need-check-reply-requires
 check-requires c κs = search rules
 
 -- `Reply::Refused(refusal) => 1 < refusal.number()`
-enum-known-reply : tie.Need-enum-known-reply
+enum-known-reply : tie.Need-enum_known-reply
 enum-known-reply c = search rules
 
 -- `Reply::Refused(refusal) => 1 < refusal.number()`
@@ -17,20 +17,26 @@ number-requires : tie.Need-number-requires
 number-requires c κs = search rules
 
 -- `Reply::Done => false`
-enum_told : tie.Need-enum-told
+enum_told : tie.Need-enum_told-1
 enum_told c = search rules
 
 -- `match reply`
-returns : tie.Need-returns
+returns : tie.Need-returns-in-Refused
 unfolding faulty
-returns c = rw (c.number.ensures, ← c.before.before.before.before.check.ensures, c.before.before.reply.given.1)
+returns c = rw (c.number.ensures, ← c.check-reply.ensures, c.in-Refused.is)
 
 -- `match reply`
-returns-2 : tie.Need-returns-2
+returns-2 : tie.Need-returns-in-Done
 unfolding faulty
-returns-2 c = rw (← c.before.before.check.ensures, c.enum_told.given.1)
+returns-2 c = rw (← c.check-reply.ensures, c.in-Done.is)
 
-pub is-faulty-spec : {M : Type 1} → statement M
-is-faulty-spec =
+pub is_faulty_spec : {M : Type 1} → statement M
+is_faulty_spec =
     tie.close
-    (tie.spec check-requires enum-known-reply number-requires enum_told returns returns-2)
+    (tie.spec
+    check-requires
+    enum-known-reply
+    number-requires
+    enum_told
+    returns
+    returns-2)
