@@ -8,31 +8,31 @@ use Rattle.find.proofs.found_text.Statement.{statement}
 use Rattle.find.proofs.found_text.Tie as tie
 
 -- `let reading = sheet::read(sheet)`
-read-requires : tie.Need-read-requires
+read-requires : tie.Need-read-reading-requires
 read-requires c κs = search rules
 
 -- the sheet that was read
-sheet : (c : tie.After-read) → let a = c.before.before.before.before.before.args in
-    Proper a.sheet.now (sheet_of c.read.result.sheet) book₀ annotation₀ a.book.now a.annotation.now
+sheet : (c : tie.After-read-reading) → let a = c.args in
+    Proper a.sheet.now (sheet_of c.read-reading.result.sheet) book₀ annotation₀ a.book.now a.annotation.now
 sheet c =
     let b = c.before.before.before.before.before in
-    found_proper b.args.sheet.now _ _ _ _ c.read.result c.read.ensures.0 b.requires.1
+    found_proper b.args.sheet.now _ _ _ _ c.read-reading.result c.read-reading.ensures.0 b.requires.1
 
 -- `choice_text(text, read, book, annotation)`
-choice-text-requires : tie.Need-choice-text-requires
+choice-text-requires : tie.Need-choice_text-requires
 choice-text-requires c κs =
     let r = c.before.before in
     let s = sheet r in
-    (r.before.before.before.before.before.requires.0, (record { arrays = r.read.ensures.1; proper = sheet_proper _ _ s.is }, s.finds))
+    (r.requires.0, (record { arrays = r.read-reading.ensures.1; proper = sheet_proper _ _ s.is }, s.finds))
 
 -- `choice_text(text, read, book, annotation)`
-same_length : tie.Need-same-length
+same_length : tie.Need-shape_of-text
 same_length c = search rules
 
 -- `choice_text(text, read, book, annotation)`
 returns : tie.Need-returns
 unfolding printed sheet_text
-returns c = rw (sheet c.before.before.before.before.before).is c.before.before.choice-text.ensures
+returns c = rw (sheet c.before.before.before.before.before).is c.choice_text.ensures
 
-pub found-text-spec : {M : Type 1} → statement M
-found-text-spec = tie.close (tie.spec read-requires choice-text-requires same_length returns)
+pub found_text_spec : {M : Type 1} → statement M
+found_text_spec = tie.close (tie.spec read-requires choice-text-requires same_length returns)
