@@ -7,16 +7,16 @@ use Rattle.judge.proofs.judge_files.Statement.{statement}
 use Rattle.judge.proofs.judge_files.Tie as tie
 
 -- `let count = words::from_bytes(&mut words, annotation)`
-from-bytes-requires : tie.Need-from-bytes-requires
+from-bytes-requires : tie.Need-from_bytes-count-requires
 from-bytes-requires c κs = search rules
 
 -- `planner::judge(sheet, book, &words[..count])`
-array-share-prefix-words : tie.Need-array-share-prefix-words
-array-share-prefix-words c = let f = c.from_bytes in omega (arith, f.ensures.ends, ap length f.ensures.is, length-take f.result f.new.0)
+array-share-prefix-words : tie.Need-slice_bounds-words-end
+array-share-prefix-words c = let f = c.from_bytes-count in omega (arith, f.ensures.ends, ap length f.ensures.is, length-take f.result f.new.words)
 
 -- `planner::judge(sheet, book, &words[..count])`
-slice-aggregate-judge : tie.Need-slice-aggregate-judge
-slice-aggregate-judge c = let h = c.before.from_bytes.ensures in omega (arith, h.ends, ap length h.is)
+slice-aggregate-judge : tie.Need-slice_bounds-judge-end
+slice-aggregate-judge c = let h = c.from_bytes-count.ensures in omega (arith, h.ends, ap length h.is)
 
 -- `planner::judge(sheet, book, &words[..count])`
 judge-requires : tie.Need-judge-requires
@@ -24,10 +24,10 @@ judge-requires c κs = search rules
 
 -- `planner::judge(sheet, book, &words[..count])`
 returns : tie.Need-returns
-returns c = rw c.before.before.from_bytes.ensures.is at c.judge.ensures
+returns c = rw c.from_bytes-count.ensures.is at c.judge.ensures
 
-pub judge-files-spec : {M : Type 1} → statement M
-judge-files-spec =
+pub judge_files_spec : {M : Type 1} → statement M
+judge_files_spec =
     tie.close
     (tie.spec
     from-bytes-requires
