@@ -1,0 +1,6 @@
+-- `draw::answer` is safe, and what it puts out is the text that is due: the text is whole.
+use Rattle.draw.proofs.answer.Goals as goal
+
+-- `put_out(rt, sheet, &text[..end])`
+pub put_out-requires : goal.put_out-requires
+put_out-requires g c = c.sheet_text-end.ensures.is
