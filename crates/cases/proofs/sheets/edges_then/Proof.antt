@@ -6,38 +6,38 @@ use borrow.Author.Rules.{rules}
 use Rattle.cases.proofs.sheets.edges_then.Statement.{statement}
 use Rattle.cases.proofs.sheets.edges_then.Tie as tie
 
-abbrev invariant-loop : tie.invariant-loop
+abbrev invariant-loop : tie.invariant-loop-k
 invariant-loop mark sheet₀ k₀ sheet k = length sheet ≡ 408
 
-abbrev decreases-loop : tie.decreases-loop
+abbrev decreases-loop : tie.decreases-loop-k
 decreases-loop mark sheet₀ k₀ sheet k = 65 - k
 
--- `bytes::copy(&CASE_E, &mut sheet)`
-slice-aggregate-copy : tie.Need-slice-aggregate-copy invariant-loop decreases-loop
-slice-aggregate-copy c = search rules
+-- `sheet[..CASE_E.len()].copy_from_slice(&CASE_E)`
+slice_bounds-sheet-end : tie.Need-slice_bounds-sheet-end invariant-loop decreases-loop
+slice_bounds-sheet-end c = search rules
 
--- `bytes::copy(&CASE_E, &mut sheet)`
-slice-aggregate-copy-2 : tie.Need-slice-aggregate-copy-2 invariant-loop decreases-loop
-slice-aggregate-copy-2 c = search rules
+-- `sheet[..CASE_E.len()].copy_from_slice(&CASE_E)`
+slice_bounds-copy_from_slice-end : tie.Need-slice_bounds-copy_from_slice-end invariant-loop decreases-loop
+slice_bounds-copy_from_slice-end c = search rules
 
--- `bytes::copy(&CASE_E, &mut sheet)`
-copy-requires : tie.Need-copy-requires invariant-loop decreases-loop
+-- `sheet[..CASE_E.len()].copy_from_slice(&CASE_E)`
+copy-requires : tie.Need-copy_from_slice-requires invariant-loop decreases-loop
 copy-requires c κs = search rules
 
 -- `while k < 65`
-loop-holds : tie.Need-loop-init invariant-loop decreases-loop
+loop-holds : tie.Need-loop-k-init invariant-loop decreases-loop
 loop-holds c = search rules
 
 -- `let at = 16 + 6 * k`
-mul_at : tie.Need-overflow-mul-at invariant-loop decreases-loop
+mul_at : tie.Need-overflow_mul-at invariant-loop decreases-loop
 mul_at c = search rules
 
 -- `let at = 16 + 6 * k`
-add_at : tie.Need-overflow-add-at invariant-loop decreases-loop
+add_at : tie.Need-overflow_add-at invariant-loop decreases-loop
 add_at c = search rules
 
 -- `sheet[at] = b'E'`
-array-write-sheet : tie.Need-array-write-sheet invariant-loop decreases-loop
+array-write-sheet : tie.Need-bounds-sheet-at invariant-loop decreases-loop
 array-write-sheet c = search rules
 
 -- `sheet[at + 1] = kind(k)`
@@ -45,41 +45,41 @@ kind-requires : tie.Need-kind-requires invariant-loop decreases-loop
 kind-requires c κs = search rules
 
 -- `sheet[at + 1] = kind(k)`
-add-sheet : tie.Need-overflow-add-sheet invariant-loop decreases-loop
+add-sheet : tie.Need-overflow_add-sheet invariant-loop decreases-loop
 add-sheet c = search rules
 
 -- `sheet[at + 1] = kind(k)`
-array-write-sheet-2 : tie.Need-array-write-sheet-2 invariant-loop decreases-loop
+array-write-sheet-2 : tie.Need-bounds-sheet-at-in-loop-k invariant-loop decreases-loop
 array-write-sheet-2 c = search rules
 
 -- `k += 1`
-add-k : tie.Need-overflow-add-k invariant-loop decreases-loop
+add-k : tie.Need-overflow_add-k invariant-loop decreases-loop
 add-k c = search rules
 
 -- `while k < 65`
-loop-less : tie.Need-loop-smaller invariant-loop decreases-loop
+loop-less : tie.Need-loop-k-smaller invariant-loop decreases-loop
 loop-less c = search rules
 
 -- `while k < 65`
-loop-again : tie.Need-loop-preserved invariant-loop decreases-loop
-loop-again c = simp length-set c.before.before.loop.invariant
+loop-again : tie.Need-loop-k-preserved invariant-loop decreases-loop
+loop-again c = simp length-set c.loop-k.invariant
 
 -- `sheet[401] = mark`
-array-write-sheet-3 : tie.Need-array-write-sheet-3 invariant-loop decreases-loop
+array-write-sheet-3 : tie.Need-bounds-sheet-401 invariant-loop decreases-loop
 array-write-sheet-3 c = search rules
 
 -- `sheet`
 returns : tie.Need-returns invariant-loop decreases-loop
-returns c = simp length-set (sym c.before.loop.invariant)
+returns c = simp length-set (sym c.loop-k.invariant)
 
-pub edges-then-spec : {M : Type 1} → statement M
-edges-then-spec =
+pub edges_then_spec : {M : Type 1} → statement M
+edges_then_spec =
     tie.close
     (tie.spec
     invariant-loop
     decreases-loop
-    slice-aggregate-copy
-    slice-aggregate-copy-2
+    slice_bounds-sheet-end
+    slice_bounds-copy_from_slice-end
     copy-requires
     loop-holds
     mul_at
