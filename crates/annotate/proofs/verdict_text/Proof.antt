@@ -10,71 +10,66 @@ use Rattle.annotate.proofs.verdict_text.Statement.{statement}
 use Rattle.annotate.proofs.verdict_text.Tie as tie
 
 -- `Verdict::Refused(refusal) => text::refused_text(text, refusal)`
-enum-known-verdict : tie.Need-enum-known-verdict
+enum-known-verdict : tie.Need-enum_known-verdict
 enum-known-verdict c = search rules
 
 -- `Verdict::Refused(refusal) => text::refused_text(text, refusal)`
-refused-text-requires : tie.Need-refused-text-requires
+refused-text-requires : tie.Need-refused_text-requires
 refused-text-requires c κs = search rules
 
 -- `Verdict::Found(finding) => match finding`
-enum-known-verdict-2 : tie.Need-enum-known-verdict-2
+enum-known-verdict-2 : tie.Need-enum_known-verdict-in-Found-1
 enum-known-verdict-2 c = search rules
 
 -- `Finding::Yes => text::greatest_text(text, annotation)`
-enum_told : tie.Need-enum-told
+enum_told : tie.Need-enum_told-1
 enum_told c = search rules
 
 -- `Finding::Yes => text::greatest_text(text, annotation)`
-greatest-text-requires : tie.Need-greatest-text-requires
+greatest-text-requires : tie.Need-greatest_text-requires
 greatest-text-requires c κs = search rules
 
 -- `Finding::No => loop_text(text, sheet, book, done, path)`
-enum-told-2 : tie.Need-enum-told-2
+enum-told-2 : tie.Need-enum_told-in-No
 enum-told-2 c = search rules
 
 -- `Finding::No => loop_text(text, sheet, book, done, path)`
-loop-text-requires : tie.Need-loop-text-requires
+loop-text-requires : tie.Need-loop_text-requires
 loop-text-requires c κs =
-    let arm = c.before in
-    let b = arm.before.before.before.before.before.before.before.before.before.before in
-    let no = arm.before.before.before.verdict2.given.1 ∙ ap (λ (f : Finding). Verdict.Found f) arm.enum-told2.given.1 in
-    (b.requires.0, (ap (λ (x : AfterAnnotate). x.answer) b.requires.1.0 ∙ no, b.requires.1.1))
+    let no = c.in-Found.is ∙ ap (λ (f : Finding). Verdict.Found f) c.in-No.is in
+    (c.requires.0, (ap (λ (x : AfterAnnotate). x.answer) c.requires.1.0 ∙ no, c.requires.1.1))
 
 -- `match verdict`
-same_length : tie.Need-same-length
+same_length : tie.Need-shape_of-text-in-Refused
 same_length c = search rules
 
 -- `match verdict`
-returns : tie.Need-returns
+returns : tie.Need-returns-in-Refused
 returns c =
-    let b = c.before.before.before.before.before.before.before.before.before.before.before.before in
-    let o = c.before.before.before.before.before.verdict.given in
-    rw (says_refused b.args.sheet.now b.args.book.now o.0.0 _ (ap (λ (x : AfterAnnotate). x.answer) b.requires.1.0 ∙ o.1)) c.before.before.refused-text.ensures
+    let o = c.in-Refused in
+    rw (says_refused c.args.sheet.now c.args.book.now o.refusal _ (ap (λ (x : AfterAnnotate). x.answer) c.requires.1.0 ∙ o.is)) c.refused_text.ensures
 
 -- `match verdict`
-same-length-2 : tie.Need-same-length-2
+same-length-2 : tie.Need-shape_of-text-in-Yes
 same-length-2 c = search rules
 
 -- `match verdict`
-returns-2 : tie.Need-returns-2
+returns-2 : tie.Need-returns-in-Yes
 returns-2 c =
-    let arm = c.before.before.before.before in
-    let b = arm.before.before.before.before.before.before.before.before.before.before in
-    let a = b.args in
-    let yes = arm.before.before.before.verdict2.given.1 ∙ ap (λ (f : Finding). Verdict.Found f) arm.enum_told.given.1 in
-    rw (says_greatest a.sheet.now a.book.now a.annotation.now _ (b.requires.1.0 ∙ ap (λ (v : Verdict). left v a.annotation.now) yes)) c.before.before.greatest-text.ensures
+    let a = c.args in
+    let yes = c.in-Found.is ∙ ap (λ (f : Finding). Verdict.Found f) c.in-Yes.is in
+    rw (says_greatest a.sheet.now a.book.now a.annotation.now _ (c.requires.1.0 ∙ ap (λ (v : Verdict). left v a.annotation.now) yes)) c.greatest_text.ensures
 
 -- `match verdict`
-same-length-3 : tie.Need-same-length-3
+same-length-3 : tie.Need-shape_of-text-in-No
 same-length-3 c = search rules
 
 -- `match verdict`
-returns-3 : tie.Need-returns-3
+returns-3 : tie.Need-returns-in-No
 returns-3 c = search rules
 
-pub verdict-text-spec : {M : Type 1} → statement M
-verdict-text-spec =
+pub verdict_text_spec : {M : Type 1} → statement M
+verdict_text_spec =
     tie.close
     (tie.spec
     enum-known-verdict
