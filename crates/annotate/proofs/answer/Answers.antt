@@ -33,6 +33,7 @@ slice_bounds-verdict_text-end-3 g c = sym c.annotate-done.auto.path
 pub verdict_text-end-requires : goal.verdict_text-end-requires
 verdict_text-end-requires g c = record {
   in_bounds = roomy 524416;
+  -- what annotate answered, and the annotation that it left
   fact = left_so (annotate_of c.args.sheet.now c.args.book.now annotation₀ path₀) _ _ c.annotate-done.ensures.verdict_value c.annotate-done.ensures.annotation_after;
   annotate_path = c.annotate-done.ensures.annotate_path;
 }
