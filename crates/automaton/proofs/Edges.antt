@@ -13,7 +13,7 @@ use Rattle.model.specs.Sheet.{Edge, ProperEdge}
 use Rattle.automaton.specs.declared.Automaton.{Automaton}
 use Rattle.automaton.specs.Struct.{edge_at, edges_of, edge_in, first_in, automaton_of, IsProper}
 
-edges_grow : (f t : List AutomatonState) (p q : List ℕ) (k : List Bool) → Grows (edge_at f t p q k) (λ n. edges_of n f t p q k)
+pub edges_grow : (f t : List AutomatonState) (p q : List ℕ) (k : List Bool) → Grows (edge_at f t p q k) (λ n. edges_of n f t p q k)
 unfolding edges_of
 edges_grow f t p q k = record { none = refl; more = λ n. refl }
 
