@@ -183,16 +183,16 @@ abbrev pub sheet_j : List ℕ → List ℕ
 sheet_j more = ar 4 4 0 ++ pr 0 0 4 ++ pr 0 0 4 ++ more ++ au 1 0 0 ++ en
 
 -- three environment variables, one automaton state, and behind AU these bytes
-abbrev pub behind_aU : List ℕ → List ℕ
-behind_aU more = ar 3 3 0 ++ pr 0 0 1 ++ au 1 0 0 ++ more
+abbrev pub behind_au : List ℕ → List ℕ
+behind_au more = ar 3 3 0 ++ pr 0 0 1 ++ au 1 0 0 ++ more
 
 -- case A, whose two waiting edges say `unless granted`
 abbrev pub waiting : List ℕ
 waiting = ar 4 2 0 ++ pr 0x03 0x0C 2 ++ au 4 0 0x0E ++ ed 0 0 0 0 ++ ed 0 3 0x0C 0 ++ ed 0 1 0x01 0 ++ ed 0 2 0x02 0 ++ ex 1 1 0x04 0 ++ ex 2 2 0x08 0 ++ ed 3 3 0 0 ++ en
 
 -- AR and PR of the three benches, and behind them these bytes
-abbrev pub behind_pR : List ℕ → List ℕ
-behind_pR more = ar 6 1 0 ++ pr 0x01 0x06 2 ++ pr 0x00 0x10 4 ++ pr 0x02 0x28 2 ++ more
+abbrev pub behind_pr : List ℕ → List ℕ
+behind_pr more = ar 6 1 0 ++ pr 0x01 0x06 2 ++ pr 0x00 0x10 4 ++ pr 0x02 0x28 2 ++ more
 
 -- processes that differ from process 0 in the bound, in the number of inputs, and in the number of outputs; behind them a tie
 abbrev pub unalike : ℕ → ℕ → List ℕ
@@ -387,9 +387,9 @@ pub record Pinned : Type 0 where
   pub fifth_prompted_cut : reply_code (check_of (behind_four (take 2 (pm 0 0 1 0)))) ≡ 2
   pub fifth_plain : reply_code (check_of (behind_four (pr 9 9 9))) ≡ 2
   pub fifth_plain_cut : reply_code (check_of (behind_four (take 2 (pr 0 0 1)))) ≡ 2
-  pub prompted_behind_tie : reply_code (check_of (behind_pR (sy 0 2 ++ take 2 (pm 0 0 1 0)))) ≡ 2
+  pub prompted_behind_tie : reply_code (check_of (behind_pr (sy 0 2 ++ take 2 (pm 0 0 1 0)))) ≡ 2
   -- ties: in file order, with other masks, their numbers in either order, and repeated
-  pub ties_read : read_front (behind_pR (sy 2 0 ++ sy 0 2 ++ sy 0 2)) ≡ proper record { architecture = benches (both 2 0 ∷ both 0 2 ∷ both 0 2 ∷ []); end = 32 }
+  pub ties_read : read_front (behind_pr (sy 2 0 ++ sy 0 2 ++ sy 0 2)) ≡ proper record { architecture = benches (both 2 0 ∷ both 0 2 ∷ both 0 2 ∷ []); end = 32 }
   -- three of them, in a circle
   pub circle_of_ties : reply_code (check_of (ar 0 0 0 ++ pr 0 0 1 ++ pr 0 0 1 ++ pr 0 0 1 ++ sy 0 1 ++ sy 1 2 ++ sy 2 0 ++ au 1 0 0 ++ en)) ≡ 0
   -- 15: unequal bounds, counts of inputs, counts of outputs, also where tables would have as many entries; one process twice; a process that there is not
@@ -410,23 +410,23 @@ pub record Pinned : Type 0 where
   -- 15 before 5
   pub tie_before_owner : reply_code (check_of (ar 1 0 0 ++ pr 0 0 1 ++ sy 0 0 ++ au 1 0 0)) ≡ 15
   -- 1: a third SY that is cut off, whatever its first number
-  pub tie_cut : reply_code (check_of (behind_pR (sy 0 2 ++ sy 0 2 ++ take 3 (sy 9 0)))) ≡ 1
+  pub tie_cut : reply_code (check_of (behind_pr (sy 0 2 ++ sy 0 2 ++ take 3 (sy 9 0)))) ≡ 1
   -- 2: a fourth SY, whatever its numbers, or cut off; an SY before any PR; a PR behind an SY; an SY behind AU
-  pub fourth_tie : reply_code (check_of (behind_pR (sy 0 2 ++ sy 0 2 ++ sy 0 2 ++ sy 9 9))) ≡ 2
-  pub fourth_tie_cut : reply_code (check_of (behind_pR (sy 0 2 ++ sy 0 2 ++ sy 0 2 ++ take 2 (sy 0 2)))) ≡ 2
+  pub fourth_tie : reply_code (check_of (behind_pr (sy 0 2 ++ sy 0 2 ++ sy 0 2 ++ sy 9 9))) ≡ 2
+  pub fourth_tie_cut : reply_code (check_of (behind_pr (sy 0 2 ++ sy 0 2 ++ sy 0 2 ++ take 2 (sy 0 2)))) ≡ 2
   pub tie_first : reply_code (check_of (ar 0 0 0 ++ sy 0 0)) ≡ 2
   pub tie_first_cut : reply_code (check_of (ar 0 0 0 ++ take 2 (sy 0 0))) ≡ 2
-  pub process_behind_tie : reply_code (check_of (behind_pR (sy 0 2 ++ take 2 (pr 0 0 1)))) ≡ 2
-  pub tie_behind_automaton : reply_code (check_of (behind_pR (au 1 0 0 ++ take 2 (sy 0 2)))) ≡ 2
+  pub process_behind_tie : reply_code (check_of (behind_pr (sy 0 2 ++ take 2 (pr 0 0 1)))) ≡ 2
+  pub tie_behind_automaton : reply_code (check_of (behind_pr (au 1 0 0 ++ take 2 (sy 0 2)))) ≡ 2
   -- 5 before 6: a variable without an owner, and no automaton state
   pub five_before_six : reply_code (check_of (ar 1 0 0 ++ pr 0 0 1 ++ au 0 0 0)) ≡ 5
   -- 6: more than 16 automaton states
   pub seventeen_states : reply_code (check_of (sheet_e 1 17 0 [])) ≡ 6
   -- 7: masks that share one bit of two
-  pub shared_bit : reply_code (check_of (behind_aU (ed 0 0 0x03 0x06))) ≡ 7
+  pub shared_bit : reply_code (check_of (behind_au (ed 0 0 0x03 0x06))) ≡ 7
   -- of an EX too, though it would always be met; one that is cut off is 1, whatever its fields
-  pub unless_shared_bit : reply_code (check_of (behind_aU (ex 0 0 0x03 0x06))) ≡ 7
-  pub unless_cut : reply_code (check_of (behind_aU (take 5 (ex 1 0 0 0)))) ≡ 1
+  pub unless_shared_bit : reply_code (check_of (behind_au (ex 0 0 0x03 0x06))) ≡ 7
+  pub unless_cut : reply_code (check_of (behind_au (take 5 (ex 1 0 0 0)))) ≡ 1
   -- 8 even if the result would be `none`, and before 9
   pub book_buffer_short : outcome_code (find_of case_f (buffer 7) []).answer ≡ 8
   -- 9 for fewer numbers than T times the automaton states, not than T

@@ -54,18 +54,18 @@ abbrev pub sheet_y : List ℕ
 sheet_y = sheet_e 1 1 0 (edge 0 0)
 
 -- X with Y, and Y with Y
-abbrev pub joined_xY : List ℕ
-joined_xY = sheet_e 1 3 0 (edges 20 0 1 ++ edge 0 2 ++ edges 20 1 1 ++ edge 2 2)
+abbrev pub joined_xy : List ℕ
+joined_xy = sheet_e 1 3 0 (edges 20 0 1 ++ edge 0 2 ++ edges 20 1 1 ++ edge 2 2)
 
-abbrev pub joined_yY : List ℕ
-joined_yY = sheet_e 1 3 0 (edge 0 1 ++ edge 0 2 ++ edge 1 1 ++ edge 2 2)
+abbrev pub joined_yy : List ℕ
+joined_yy = sheet_e 1 3 0 (edge 0 1 ++ edge 0 2 ++ edge 1 1 ++ edge 2 2)
 
 -- F with E, and E with F: the loop stands in state 1, and in state 2
-abbrev pub joined_fE : List ℕ
-joined_fE = sheet_e 1 3 2 (edge 0 1 ++ edge 1 1)
+abbrev pub joined_fe : List ℕ
+joined_fe = sheet_e 1 3 2 (edge 0 1 ++ edge 1 1)
 
-abbrev pub joined_eF : List ℕ
-joined_eF = sheet_e 1 3 4 (edge 0 2 ++ edge 2 2)
+abbrev pub joined_ef : List ℕ
+joined_ef = sheet_e 1 3 4 (edge 0 2 ++ edge 2 2)
 
 -- the number for these two, with a buffer of this length
 abbrev pub code : List ℕ → List ℕ → ℕ → ℕ
@@ -99,7 +99,7 @@ pub record JoinsPinned : Type 0 where
   -- no edges; two rejecting starts; a loop at a start
   pub E-with-E : join_bytes (sheet_e 1 1 0 []) (sheet_e 1 1 0 []) ≡ proper (front_e ++ states 3 0 0x00 0x00 ++ end)
   pub G-with-G : join_bytes (sheet_e 1 1 1 []) (sheet_e 1 1 1 []) ≡ proper (front_e ++ states 3 0 0x06 0x00 ++ end)
-  pub Y-with-Y : join_bytes sheet_y sheet_y ≡ proper joined_yY
+  pub Y-with-Y : join_bytes sheet_y sheet_y ≡ proper joined_yy
   -- 8: one byte too few, just enough, and one more, which stays
   pub too_short : (join_of (sheet_e 1 1 0 []) (sheet_e 1 1 0 []) (buffer 17)).sheet ≡ buffer 17
   pub eight : code (sheet_e 1 1 0 []) (sheet_e 1 1 0 []) 17 ≡ 8
@@ -117,16 +117,16 @@ pub record JoinsPinned : Type 0 where
   pub sixty_six_edges : code (sheet_e 1 1 0 (edges 16 0 0)) (sheet_e 1 1 0 (edges 17 0 0)) 433 ≡ 20
   pub none_copied : code (sheet_e 1 2 0 (edges 32 1 0)) (sheet_e 1 2 0 (edges 32 1 0)) 433 ≡ 65536 + 402
   -- one grouping of three sheets alone
-  pub X-with-Y : join_bytes sheet_x sheet_y ≡ proper joined_xY
-  pub first_two_first : code joined_xY sheet_y 433 ≡ 20
-  pub last_two_first : code sheet_x joined_yY 433 ≡ 65536 + 294
+  pub X-with-Y : join_bytes sheet_x sheet_y ≡ proper joined_xy
+  pub first_two_first : code joined_xy sheet_y 433 ≡ 20
+  pub last_two_first : code sheet_x joined_yy 433 ≡ 65536 + 294
   -- in order: the first sheet's fault, the second's, 19, 20, 8
   pub first_before_second : code (sheet_e 1 0 0 []) [] 0 ≡ 6
   pub second_before_19 : code (sheet_e 1 1 0 []) (sheet_e 2 0 0 []) 0 ≡ 6
   pub nineteen_before_20 : code (sheet_e 1 8 0 []) (sheet_e 2 9 0 []) 0 ≡ 19
   pub twenty_before_8 : code (sheet_e 1 8 0 []) (sheet_e 1 8 0 []) 0 ≡ 20
   -- the loop of F is one of F with E, and of E with F
-  pub F-with-E : join_bytes (sheet_e 1 1 1 (edge 0 0)) (sheet_e 1 1 0 []) ≡ proper joined_fE
-  pub none_of_FE : outcome_code (find_of joined_fE (buffer 8) (buffer 3)).answer ≡ 256
-  pub E-with-F : join_bytes (sheet_e 1 1 0 []) (sheet_e 1 1 1 (edge 0 0)) ≡ proper joined_eF
-  pub none_of_EF : outcome_code (find_of joined_eF (buffer 8) (buffer 3)).answer ≡ 256
+  pub F-with-E : join_bytes (sheet_e 1 1 1 (edge 0 0)) (sheet_e 1 1 0 []) ≡ proper joined_fe
+  pub none_of_FE : outcome_code (find_of joined_fe (buffer 8) (buffer 3)).answer ≡ 256
+  pub E-with-F : join_bytes (sheet_e 1 1 0 []) (sheet_e 1 1 1 (edge 0 0)) ≡ proper joined_ef
+  pub none_of_EF : outcome_code (find_of joined_ef (buffer 8) (buffer 3)).answer ≡ 256
