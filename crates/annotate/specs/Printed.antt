@@ -1,6 +1,5 @@
 -- What the annotating program prints for a sheet and a book, and the file that it writes.
-use Rattle.std.specs.Prelude.{List, [], ℕ, replicate}
-use Rattle.model.specs.declared.Verdict.{Verdict}
+use Rattle.std.specs.Prelude.{List, [], ℕ, replicate, Result}
 use Rattle.model.specs.Mask.{if}
 use Rattle.model.specs.Reading.{Reading, refused, proper, ◌then◌, read_sheet}
 use Rattle.model.specs.Computed.{loops, annotation}
@@ -10,6 +9,8 @@ use Rattle.model.specs.Numbers.{number}
 use Rattle.words.specs.Words.{bytes_of}
 use Rattle.text.specs.Text.{greatest_text, refused_text}
 use Rattle.replay.specs.Run.{run_text}
+use Rattle.model.specs.declared.Refusal.{Refusal}
+use Rattle.model.specs.declared.Finding.{Finding}
 
 -- the sheet, and the choice of the book
 unfoldable pub chosen_in : List ℕ → List ℕ → Reading Chosen
@@ -41,5 +42,5 @@ abbrev pub path₀ : List ℕ
 path₀ = replicate 16384 0
 
 -- what annotate answered, and how it left the annotation
-abbrev pub left : Verdict → List ℕ → AfterAnnotate
+abbrev pub left : Result Finding Refusal → List ℕ → AfterAnnotate
 left verdict ann = record { answer = verdict; annotation = ann }

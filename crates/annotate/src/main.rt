@@ -2,16 +2,17 @@
 // number, with the cause on standard error. With a third name it writes the annotation to that file, in words of two bytes, the low byte first.
 #![tactic(auto)]
 
-ghost use Rattle.std.specs.Prelude.{◌≡◌, ◌≤◌, length};
+ghost use Rattle.std.specs.Prelude.{◌≡◌, ◌≤◌, length, Ok};
 ghost use Rattle.model.specs.declared.Finding.TheVariants.{Yes, No};
-ghost use Rattle.model.specs.declared.Verdict.{Verdict as Answer};
 ghost use Rattle.model.specs.Calls.{annotate_of, AnnotatePath};
-ghost use Rattle.judging.specs.Answers.{after_path};
+ghost use Rattle.judging.specs.declared.Annotated.TheVariants.{Loop};
+ghost use Rattle.judging.specs.Answers.{verdict_of, after_path};
 ghost use Rattle.template.specs.Holds.{Holds};
 ghost use Rattle.annotate.specs.Printed.{chosen_in, chosen_file, printed, annotation₀, path₀, left};
 
 use judging::Annotated;
-use model::{Finding, Verdict};
+use lasso::Lengths;
+use model::Refusal;
 use std::env::Env;
 use std::rt::Files;
 
@@ -26,18 +27,15 @@ const TEXT_ROOM: usize = 524416;
 
 // ---- the texts, each at the front of the buffer: the functions answer its length
 // The run that annotate wrote: the sheet and the book are read again, and the steps taken again.
-fn loop_text(text: &mut [u8], sheet: &[u8], book: &[u8], done: Annotated, path: &[u8]) -> usize
+fn loop_text(text: &mut [u8], sheet: &[u8], book: &[u8], lengths: Lengths, path: &[u8]) -> usize
     requires in_bounds { 524416 ≤ length text.old }
-    requires fact { (annotate_of sheet.now book.now annotation₀ path₀).answer ≡ Answer.Found No }
-    requires annotate_path { AnnotatePath sheet.now book.now annotation₀ path₀ (after_path done path.now) }
-    ensures { Holds text.new result (printed sheet.now book.now (after_path done path.now)) }
+    requires fact { (annotate_of sheet.now book.now annotation₀ path₀).answer ≡ Ok No }
+    requires annotate_path { AnnotatePath sheet.now book.now annotation₀ path₀ (after_path (Ok (Loop lengths)) path.now) }
+    ensures { Holds text.new result (printed sheet.now book.now (after_path (Ok (Loop lengths)) path.now)) }
 {
-    let reading = sheet::read(sheet);
-    let read = reading.sheet;
-    let a = read.architecture;
-    let book_read = book::read_for(a, book);
-    let tables = book_read.tables;
-    replay::run_text(text, read, &tables, path, done.stem, done.cycle)
+    let read = sheet::read(sheet).unwrap();
+    let tables = book::read_for(read.architecture, book).unwrap();
+    replay::run_text(text, read, &tables, path, lengths.stem, lengths.cycle)
 }
 
 // What annotate answered. The zeros behind the annotation are never the greatest.
@@ -45,27 +43,31 @@ fn verdict_text(
     text: &mut [u8],
     sheet: &[u8],
     book: &[u8],
-    done: Annotated,
+    done: Result<Annotated, Refusal>,
     annotation: &[u16],
     path: &[u8],
 ) -> usize
     requires in_bounds { 524416 ≤ length text.old }
-    requires fact { annotate_of sheet.now book.now annotation₀ path₀ ≡ left done.verdict annotation.now }
+    requires fact { annotate_of sheet.now book.now annotation₀ path₀ ≡ left (verdict_of done) annotation.now }
     requires annotate_path { AnnotatePath sheet.now book.now annotation₀ path₀ (after_path done path.now) }
     ensures { Holds text.new result (printed sheet.now book.now (after_path done path.now)) }
 {
-    let verdict = done.verdict;
-    match verdict {
-        Verdict::Refused(refusal) => text::refused_text(text, refusal),
-        Verdict::Found(finding) => match finding {
-            Finding::Yes => text::greatest_text(text, annotation),
-            Finding::No => loop_text(text, sheet, book, done, path),
-        },
+    match done {
+        Ok(Annotated::Keeps) => text::greatest_text(text, annotation),
+        Ok(Annotated::Loop(lengths)) => loop_text(text, sheet, book, lengths, path),
+        Err(refusal) => text::refused_text(text, refusal),
     }
 }
 
 // Puts out the text that is due for the bytes of two files: this is all that the program writes on standard output.
-fn put_out(rt: &impl Print, sheet: &[u8], book: &[u8], done: Annotated, path: &[u8], text: &[u8])
+fn put_out(
+    rt: &impl Print,
+    sheet: &[u8],
+    book: &[u8],
+    done: Result<Annotated, Refusal>,
+    path: &[u8],
+    text: &[u8],
+)
     requires annotate_path { AnnotatePath sheet.now book.now annotation₀ path₀ (after_path done path.now) }
     requires text_value { text.now ≡ printed sheet.now book.now (after_path done path.now) }
 {
@@ -81,13 +83,12 @@ fn save_bytes<R: Env + Files + Eprint>(rt: &R, sheet: &[u8], book: &[u8], annota
 
 // Writes what annotate put into the buffer, where a file is named for it.
 fn save_annotation<R: Env + Files + Eprint>(rt: &R, sheet: &[u8], book: &[u8], annotation: &[u16])
-    requires { annotate_of sheet.now book.now annotation₀ path₀ ≡ left (Answer.Found Yes) annotation.now }
+    requires { annotate_of sheet.now book.now annotation₀ path₀ ≡ left (Ok Yes) annotation.now }
 {
     if input::argument_count(rt) < 4 {
         return;
     }
-    let reading = sheet::read(sheet);
-    let read = reading.sheet;
+    let read = sheet::read(sheet).unwrap();
     let vertices = sizes::vertices(read);
     let mut bytes = [0u8; 8192];
     let end = words::to_bytes(&mut bytes, &annotation[..vertices]);
@@ -102,13 +103,10 @@ fn answer<R: Env + Files + Print + Eprint>(rt: &R, sheet: &[u8], book: &[u8]) {
     let mut text = [0u8; TEXT_ROOM];
     let end = verdict_text(&mut text, sheet, book, done, &annotation, &path);
     put_out(rt, sheet, book, done, &path, &text[..end]);
-    let verdict = done.verdict;
-    match verdict {
-        Verdict::Refused(refusal) => cause::explain(rt, refusal, sheet),
-        Verdict::Found(finding) => match finding {
-            Finding::Yes => save_annotation(rt, sheet, book, &annotation),
-            Finding::No => {}
-        },
+    match done {
+        Ok(Annotated::Keeps) => save_annotation(rt, sheet, book, &annotation),
+        Ok(Annotated::Loop(_)) => {}
+        Err(refusal) => cause::explain(rt, refusal, sheet),
     }
 }
 

@@ -1,7 +1,8 @@
--- What the proofs of several functions use.
+-- What the proofs of several functions use, and laws for callers.
 mod SumLaws
+pub mod StackLaws
 mod NumberAtVertex
-mod TableGraph
+pub mod TableGraph
 mod RelaxStep
 mod PendingVertices
 mod ValidTestLaws

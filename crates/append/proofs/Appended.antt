@@ -1,19 +1,21 @@
 -- Laws of what was appended: nothing, one element, one list behind another, and the whole list.
 use mathlib.Core.Path.{◌≡◌, refl, sym, ap, ap₂, ◌∙◌}
 use mathlib.Core.List.{List, [], ◌∷◌, ◌++◌, append_assoc, append-nil}
-use Prim.Native.Nat.{ℕ, ◌+◌, ◌<◌, ◌≤◌}
+use Prim.Native.Nat.{ℕ, ◌+◌, ◌-◌, ◌<◌, ◌≤◌}
 use native.Mathlib.Numerals.{add-one}
 use native.Mathlib.Omega.{arith}
 use lib.ListN.{length, get_or, take, drop, set, replicate, length-append, length-take, length-drop, take-append-drop, replicate-append-replicate}
 use lib.Seq.{take-suc, take-suc-set, drop-set-lt, drop-drop}
+use borrow.Rule.Slice.PartMut.{put_mid}
+use Rattle.std.proofs.lemmas.Slice.{take-put_mid, drop-put_mid}
 use Rattle.append.specs.Appends.{Appends}
 
 -- nothing
-pub append_none : (l : List ℕ) (at : ℕ) → Appends l at [] at l
+pub append_none : {A : Type 0} (l : List A) (at : ℕ) → Appends l at [] at l
 append_none l at = record { is = sym (append-nil (take at l)); ends = omega arith; behind = refl }
 
 -- one element
-pub append_one : (l : List ℕ) (at v : ℕ) → at < length l → Appends l at (v ∷ []) (at + 1) (set l at v)
+pub append_one : {A : Type 0} (l : List A) (at : ℕ) (v : A) → at < length l → Appends l at (v ∷ []) (at + 1) (set l at v)
 append_one l at v h = record {
   is = rw (add-one at) (take-suc-set l at v h);
   ends = refl;
@@ -60,6 +62,14 @@ append_front {end = end} front k n e p = let long : end ≡ length (front k) = o
 -- the same element again
 pub append_again : {l m : List ℕ} {at end : ℕ} (k v : ℕ) → Appends l at (replicate k v) end m → end < length m → Appends l at (replicate (k + 1) v) (end + 1) (set m end v)
 append_again k v p h = rw (← replicate-append-replicate k 1 v) (append_next p v h)
+
+-- a part of the list, written over
+pub append_part : {A : Type 0} (l xs : List A) (at n end : ℕ) → end ≡ at + length xs → n ≡ end - at → end ≤ length l → Appends l at xs end (put_mid at n l xs)
+append_part l xs at n end e k room = record {
+  is = take-put_mid at n l xs end e (omega arith);
+  ends = e;
+  behind = drop-put_mid at n l xs end (omega arith) (omega arith) (omega arith);
+}
 
 -- the next of those that are copied
 pub append_copy : {l m : List ℕ} {at end : ℕ} (from : List ℕ) (k : ℕ) → k < length from → Appends l at (take k from) end m → end < length m

@@ -1,7 +1,6 @@
--- The processes of an architecture's arrays, and the ties of two, are those that an architecture has, one at a time: what each adds to the entries, the rows and the composed states,
+-- The processes and the ties of an architecture's arrays are those that an architecture has, one at a time: what each adds to the entries, the rows and the composed states,
 -- and the bounds that a proper architecture sets.
 use mathlib.Core.Path.{◌≡◌, refl, sym, ap, ap₂, ◌∙◌}
-use mathlib.Core.Bool.{false}
 use mathlib.Core.List.{List, [], ◌∷◌, ◌++◌, Memᴰ}
 use Prim.Native.Nat.{ℕ, zero, suc, ◌+◌, ◌-◌, ◌*◌, ◌^◌, ◌<◌, ◌≤◌}
 use native.Mathlib.Numerals.{add-one}
@@ -10,8 +9,8 @@ use native.Mathlib.Omega.{arith}
 use native.Mathlib.Decide.{ℕ_discrete}
 use lib.Dec.{eqb, eqb-suc-zero}
 use lib.Pow.{pow_mono}
-use lib.ListN.{length, get_or, drop, set, length-append}
-use lib.Seq.{get_or-set_same, get_or-set_other}
+use lib.ListN.{length, get_or, take, drop, set, length-append}
+use lib.Seq.{get_or-set_same, get_or-set_other, get_or-take}
 use Rattle.theory.proofs.ListLaws.{Grows, grown_length, grown_at, grown_has, grown_next, grown_end, grown_same}
 use Rattle.model.specs.Mask.{if, count}
 use Rattle.model.specs.Sheet as model
@@ -21,7 +20,9 @@ use Rattle.model.specs.Choice.{row, times, rows, entries}
 use Rattle.model.proofs.FitsTest.{row_length_lem}
 use Rattle.model.proofs.ComposedNumbers.{times_length}
 use Rattle.model.proofs.EntriesBound.{row_few}
+use Rattle.architecture.specs.declared.TheConstants.{NO_PROCESS, NO_TIE}
 use Rattle.architecture.specs.declared.Process.{Process}
+use Rattle.architecture.specs.declared.Tie.{Tie}
 use Rattle.architecture.specs.declared.Architecture.{Architecture}
 use Rattle.architecture.specs.Struct.{process_of, processes_of, process_in, first_in, processes_in, tie_of, ties_of, architecture_of, Arrays, IsProper, entries_of}
 
@@ -73,82 +74,58 @@ pub processes_more : (n : ℕ) (f g : ℕ → model.Process) → ((k : ℕ) → 
 unfolding processes_of
 processes_more n f g before = rw (add-one n, grown_same (processes_grow g) (processes_grow f) n before)
 
--- what the arrays hold once p is stored behind the processes of a
-abbrev stored : Architecture → Process → ℕ → model.Process
-stored a p k =
-    let n = a.processes in
-    record {
-      inputs = get_or (set a.inputs n p.inputs) k 0;
-      outputs = get_or (set a.outputs n p.outputs) k 0;
-      bound = get_or (set a.bounds n p.bound) k 0;
-      prompts = get_or (set a.prompts n p.prompts) k 0;
-      prompted = get_or (set a.prompted n p.prompted) k false;
-    }
+-- process k stands at k also among the first n
+pub process_taken : (a : Architecture) (n k : ℕ) → k < n → process_of (get_or (take n a.process_list) k NO_PROCESS) ≡ process_in a k
+process_taken a n k h = ap process_of (get_or-take n a.process_list k NO_PROCESS h)
 
--- it leaves the entries before it
-pub process_stored : (a : Architecture) (p : Process) → Arrays a → a.processes < 4 → processes_of (a.processes + 1) (stored a p) ≡ processes_in a ++ (process_of p ∷ [])
+-- a store behind the processes of a leaves those before it
+pub process_stored : (a : Architecture) (p : Process) → Arrays a → a.processes < 4
+    → processes_of (a.processes + 1) (λ k. process_of (get_or (set a.process_list a.processes p) k NO_PROCESS)) ≡ processes_in a ++ (process_of p ∷ [])
 process_stored a p z room =
-    let n = a.processes in
-    let last : stored a p n ≡ process_of p =
-    λ j. record {
-      inputs = get_or-set_same a.inputs n p.inputs 0 (omega (arith, z.inputs_long)) j;
-      outputs = get_or-set_same a.outputs n p.outputs 0 (omega (arith, z.outputs_long)) j;
-      bound = get_or-set_same a.bounds n p.bound 0 (omega (arith, z.bounds_long)) j;
-      prompts = get_or-set_same a.prompts n p.prompts 0 (omega (arith, z.prompts_long)) j;
-      prompted = get_or-set_same a.prompted n p.prompted false (omega (arith, z.prompted_long)) j;
-    } in
-    processes_more n (process_in a) (stored a p) (before a p) ∙ ap (λ (q : model.Process). processes_in a ++ (q ∷ [])) last
-  where
-    before : (a : Architecture) (p : Process) (k : ℕ) → k < a.processes → stored a p k ≡ process_in a k
-    before a p k h =
-        let n = a.processes in
-        let ne : k ≡ n → ⊥ = λ e. omega arith in
-        λ j. record {
-          inputs = get_or-set_other a.inputs n k p.inputs 0 ne j;
-          outputs = get_or-set_other a.outputs n k p.outputs 0 ne j;
-          bound = get_or-set_other a.bounds n k p.bound 0 ne j;
-          prompts = get_or-set_other a.prompts n k p.prompts 0 ne j;
-          prompted = get_or-set_other a.prompted n k p.prompted false ne j;
-        }
+    processes_more a.processes (process_in a) _ (λ k h. let ne : k ≡ a.processes → ⊥ = λ e. omega arith in ap process_of (get_or-set_other a.process_list a.processes k p NO_PROCESS ne))
+    ∙ ap (λ (q : Process). processes_in a ++ (process_of q ∷ [])) (get_or-set_same a.process_list a.processes p NO_PROCESS (omega (arith, z.processes_long)))
 
 -- and where they end, none from there on has prompt inputs
-pub prompts_stored : (a : Architecture) (m end : ℕ) → Arrays a → a.processes < 4 → end ≡ if (eqb m 0) a.prompt_end (a.processes + 1)
-    → (k : ℕ) → end ≤ k → k < a.processes + 1 → get_or (set a.prompts a.processes m) k 0 ≡ 0
+pub prompts_stored : (a : Architecture) (p : Process) (end : ℕ) → Arrays a → a.processes < 4 → end ≡ if (eqb p.prompts 0) a.prompt_end (a.processes + 1)
+    → (k : ℕ) → end ≤ k → k < a.processes + 1 → (get_or (set a.process_list a.processes p) k NO_PROCESS).prompts ≡ 0
 unfolding if
-prompts_stored a (suc m) end z room is k l h = absurd (omega (arith, rw (eqb-suc-zero m) at is))
-prompts_stored a zero end z room is k l h = by (ℕ_discrete k a.processes)
+prompts_stored a p end z room is k l h = by (ℕ_discrete k a.processes) p.prompts refl is
   where
-    by : Dec (k ≡ a.processes) → get_or (set a.prompts a.processes 0) k 0 ≡ 0
-    by (yes same) = rw same (get_or-set_same a.prompts a.processes 0 0 (omega (arith, z.prompts_long)))
-    by (no other) = get_or-set_other a.prompts a.processes k 0 0 other ∙ z.prompts_ended k (omega (arith, is)) (omega arith)
+    by : Dec (k ≡ a.processes) → (m : ℕ) → p.prompts ≡ m → end ≡ if (eqb m 0) a.prompt_end (a.processes + 1) → (get_or (set a.process_list a.processes p) k NO_PROCESS).prompts ≡ 0
+    by d (suc m) em e = absurd (omega (arith, rw (eqb-suc-zero m) at e))
+    by (yes same) zero em e = rw same (ap (λ (q : Process). q.prompts) (get_or-set_same a.process_list a.processes p NO_PROCESS (omega (arith, z.processes_long))) ∙ em)
+    by (no other) zero em e = ap (λ (q : Process). q.prompts) (get_or-set_other a.process_list a.processes k p NO_PROCESS other) ∙ z.prompts_ended k (omega (arith, e)) (omega arith)
 
--- ---- the ties of two arrays
-ties_grow : (l r : List ℕ) → Grows (tie_of l r) (λ n. ties_of n l r)
+-- ---- the ties of the array
+ties_grow : (ts : List Tie) → Grows (tie_of ts) (λ n. ties_of n ts)
 unfolding ties_of
-ties_grow l r = record { none = refl; more = λ n. refl }
+ties_grow ts = record { none = refl; more = λ n. refl }
 
-pub ties_length : (n : ℕ) (l r : List ℕ) → length (ties_of n l r) ≡ n
-ties_length n l r = grown_length (ties_grow l r) n
+pub ties_length : (n : ℕ) (ts : List Tie) → length (ties_of n ts) ≡ n
+ties_length n ts = grown_length (ties_grow ts) n
 
 -- from k on, and from k + 1 on
-pub tie_next : (l r : List ℕ) (n k : ℕ) → k < n → drop k (ties_of n l r) ≡ tie_of l r k ∷ drop (k + 1) (ties_of n l r)
-tie_next l r = grown_next (ties_grow l r)
+pub tie_next : (ts : List Tie) (n k : ℕ) → k < n → drop k (ties_of n ts) ≡ tie_of ts k ∷ drop (k + 1) (ties_of n ts)
+tie_next ts = grown_next (ties_grow ts)
 
-pub ties_end : (l r : List ℕ) (n : ℕ) → drop n (ties_of n l r) ≡ []
-ties_end l r = grown_end (ties_grow l r)
+pub ties_end : (ts : List Tie) (n : ℕ) → drop n (ties_of n ts) ≡ []
+ties_end ts = grown_end (ties_grow ts)
 
 -- tie k is one of them
-pub tie_has : (l r : List ℕ) (n k : ℕ) → k < n → Memᴰ (tie_of l r k) (ties_of n l r)
-tie_has l r = grown_has (ties_grow l r)
+pub tie_has : (ts : List Tie) (n k : ℕ) → k < n → Memᴰ (tie_of ts k) (ties_of n ts)
+tie_has ts = grown_has (ties_grow ts)
+
+-- and it stands at k also among the first n
+pub tie_taken : (ts : List Tie) (n k : ℕ) → k < n → tie_of (take n ts) k ≡ tie_of ts k
+tie_taken ts n k h = ap (λ (t : Tie). record { left = t.left; right = t.right }) (get_or-take n ts k NO_TIE h)
 
 -- a store at n leaves the entries before it
-pub ties_more : (n : ℕ) (l r : List ℕ) (x y : ℕ) → n < length l → n < length r → ties_of (n + 1) (set l n x) (set r n y) ≡ ties_of n l r ++ (record { left = x; right = y } ∷ [])
+pub ties_more : (n : ℕ) (ts : List Tie) (t : Tie) → n < length ts → ties_of (n + 1) (set ts n t) ≡ ties_of n ts ++ (record { left = t.left; right = t.right } ∷ [])
 unfolding ties_of
-ties_more n l r x y hl hr =
-    rw (add-one n, grown_same (ties_grow (set l n x) (set r n y)) (ties_grow l r) n before, get_or-set_same l n x 0 hl, get_or-set_same r n y 0 hr)
+ties_more n ts t h = rw (add-one n, grown_same (ties_grow (set ts n t)) (ties_grow ts) n before, get_or-set_same ts n t NO_TIE h)
   where
-    before : (k : ℕ) → k < n → tie_of (set l n x) (set r n y) k ≡ tie_of l r k
-    before k h = let ne : k ≡ n → ⊥ = λ e. omega arith in rw (get_or-set_other l n k x 0 ne, get_or-set_other r n k y 0 ne)
+    before : (k : ℕ) → k < n → tie_of (set ts n t) k ≡ tie_of ts k
+    before k l = let ne : k ≡ n → ⊥ = λ e. omega arith in rw (get_or-set_other ts n k t NO_TIE ne)
 
 -- ---- process j's part of what is made of all, from j on
 module _ (f : ℕ → model.Process) (n j : ℕ) (h : j < n) where
@@ -190,17 +167,17 @@ count_is a = processes_length a.processes (process_in a)
 -- and how many ties
 pub ties_count : (a : Architecture) → length (architecture_of a).ties ≡ a.ties
 unfolding architecture_of
-ties_count a = ties_length a.ties a.lefts a.rights
+ties_count a = ties_length a.ties a.tie_list
 
 -- ---- what is known of a proper architecture, by the number of a process
 pub record Facts (a : Architecture) : Type 0 where
   pub few_processes : a.processes ≤ 4
   pub few_environment : a.environment ≤ 4
-  pub inputs_known : (i : ℕ) → i < a.processes → get_or a.inputs i 0 < 256
-  pub outputs_known : (i : ℕ) → i < a.processes → get_or a.outputs i 0 < 256
-  pub few_inputs : (i : ℕ) → i < a.processes → count (get_or a.inputs i 0) ≤ 4
-  pub some_state : (i : ℕ) → i < a.processes → 1 ≤ get_or a.bounds i 0
-  pub few_states : (i : ℕ) → i < a.processes → get_or a.bounds i 0 ≤ 4
+  pub inputs_known : (i : ℕ) → i < a.processes → (process_in a i).inputs < 256
+  pub outputs_known : (i : ℕ) → i < a.processes → (process_in a i).outputs < 256
+  pub few_inputs : (i : ℕ) → i < a.processes → count (process_in a i).inputs ≤ 4
+  pub some_state : (i : ℕ) → i < a.processes → 1 ≤ (process_in a i).bound
+  pub few_states : (i : ℕ) → i < a.processes → (process_in a i).bound ≤ 4
   pub few_composed : composed_states a.environment (processes_in a) ≤ 256
 
 module _ {a : Architecture} (z : IsProper a) where
@@ -249,7 +226,7 @@ module _ (a : Architecture) (j at : ℕ) (h : j < a.processes) (known : at + ent
   pub rest_within : at + process_length (process_in a j) + entries_of (drop (j + 1) (processes_in a)) ≡ entries_of (processes_in a)
   rest_within = omega (arith, entries_turn (process_in a) a.processes j h)
 
-  pub row_within : (x : ℕ) → x < get_or a.bounds j 0 → row_at (process_in a j) at x + row_length (process_in a j) ≤ entries_of (processes_in a)
+  pub row_within : (x : ℕ) → x < (process_in a j).bound → row_at (process_in a j) at x + row_length (process_in a j) ≤ entries_of (processes_in a)
   row_within x l = omega (arith, rest_within, row_inside (process_in a j) at x l)
 
   pub at_few : IsProper a → at ≤ 272

@@ -1,9 +1,11 @@
 -- What the structs of an architecture and of its processes stand for in the model, and what is asked of them. These are definitions.
-use Rattle.std.specs.Prelude.{◌≡◌, false, List, [], ◌∷◌, ◌++◌, ℕ, zero, suc, ◌+◌, ◌<◌, ◌≤◌, length, get_or}
+use Rattle.std.specs.Prelude.{◌≡◌, List, [], ◌∷◌, ◌++◌, ℕ, zero, suc, ◌+◌, ◌<◌, ◌≤◌, length, get_or}
 use Rattle.model.specs.Sheet as model
-use Rattle.model.specs.Sheet.{Tie, ProperArchitecture}
+use Rattle.model.specs.Sheet.{ProperArchitecture}
 use Rattle.model.specs.Compose.{process_length}
+use Rattle.architecture.specs.declared.TheConstants.{NO_PROCESS, NO_TIE}
 use Rattle.architecture.specs.declared.Process.{Process}
+use Rattle.architecture.specs.declared.Tie.{Tie}
 use Rattle.architecture.specs.declared.Architecture.{Architecture}
 
 -- the process of the struct
@@ -17,13 +19,7 @@ processes_of (suc n) f = processes_of n f ++ (f n ∷ [])
 
 -- process i of an architecture
 abbrev pub process_in : Architecture → ℕ → model.Process
-process_in a i = record {
-  inputs = get_or a.inputs i 0;
-  outputs = get_or a.outputs i 0;
-  bound = get_or a.bounds i 0;
-  prompts = get_or a.prompts i 0;
-  prompted = get_or a.prompted i false;
-}
+process_in a i = process_of (get_or a.process_list i NO_PROCESS)
 
 -- the first n processes
 abbrev pub first_in : Architecture → ℕ → List model.Process
@@ -33,18 +29,22 @@ first_in a n = processes_of n (process_in a)
 abbrev pub processes_in : Architecture → List model.Process
 processes_in a = first_in a a.processes
 
--- entry k of the two arrays of process numbers, as a tie
-abbrev pub tie_of : List ℕ → List ℕ → ℕ → Tie
-tie_of l r k = record { left = get_or l k 0; right = get_or r k 0 }
+-- entry k of the array, as a tie
+abbrev pub tie_of : List Tie → ℕ → model.Tie
+tie_of ts k = let t = get_or ts k NO_TIE in record { left = t.left; right = t.right }
 
 -- the first n entries, as ties
-unfoldable pub ties_of : ℕ → List ℕ → List ℕ → List Tie
-ties_of zero l r = []
-ties_of (suc n) l r = ties_of n l r ++ (tie_of l r n ∷ [])
+unfoldable pub ties_of : ℕ → List Tie → List model.Tie
+ties_of zero ts = []
+ties_of (suc n) ts = ties_of n ts ++ (tie_of ts n ∷ [])
+
+-- tie k of an architecture
+abbrev pub tie_in : Architecture → ℕ → model.Tie
+tie_in a = tie_of a.tie_list
 
 -- all ties
-abbrev pub ties_in : Architecture → List Tie
-ties_in a = ties_of a.ties a.lefts a.rights
+abbrev pub ties_in : Architecture → List model.Tie
+ties_in a = ties_of a.ties a.tie_list
 
 -- the architecture of the struct
 unfoldable pub architecture_of : Architecture → model.Architecture
@@ -54,15 +54,10 @@ architecture_of a = record { variables = a.variables; environment = a.environmen
 -- the struct's arrays are whole, its counts are at most their lengths, and the processes from prompt_end on have no prompt inputs
 pub record Arrays (a : Architecture) : Type 0 where
   pub few_processes : a.processes ≤ 4
-  pub inputs_long : length a.inputs ≡ 4
-  pub outputs_long : length a.outputs ≡ 4
-  pub bounds_long : length a.bounds ≡ 4
-  pub prompts_long : length a.prompts ≡ 4
-  pub prompted_long : length a.prompted ≡ 4
-  pub prompts_ended : (k : ℕ) → a.prompt_end ≤ k → k < a.processes → get_or a.prompts k 0 ≡ 0
+  pub processes_long : length a.process_list ≡ 4
+  pub prompts_ended : (k : ℕ) → a.prompt_end ≤ k → k < a.processes → (process_in a k).prompts ≡ 0
   pub few_ties : a.ties ≤ 3
-  pub lefts_long : length a.lefts ≡ 3
-  pub rights_long : length a.rights ≡ 3
+  pub ties_long : length a.tie_list ≡ 3
 
 -- the struct holds a proper architecture
 pub record IsProper (a : Architecture) : Type 0 where

@@ -18,29 +18,32 @@ pub struct Edge {
     pub unless: bool,
 }
 
-// The first `edges` of from, to, on, off and unless count.
+// The first `edges` of the list count. The count stands beside an array since memory is fixed and calls take the automaton by value: arrayvec's ArrayVec is not Copy.
 #[derive(Clone, Copy)]
 pub struct Automaton {
     pub states: u8,
     pub initial: AutomatonState,
     pub rejecting: u16,
     pub edges: usize,
-    pub from: [AutomatonState; 64],
-    pub to: [AutomatonState; 64],
-    pub on: [u8; 64],
-    pub off: [u8; 64],
-    pub unless: [bool; 64],
+    pub edge_list: [Edge; 64],
 }
+
+// What stands in the list before an edge does.
+const NO_EDGE: Edge = Edge {
+    from: AutomatonState(0),
+    to: AutomatonState(0),
+    on: 0,
+    off: 0,
+    unless: false,
+};
 
 impl Edge {
     // The label has all of the on mask and none of the off mask.
+    #[tactic(auto, unfolding(model::specs::RunGraph::matches, model::specs::Mask::within, model::specs::Mask::share))]
     fn matches(self, label: u8) -> bool
         ensures { result ≡ matches (edge_of self) label }
     {
-        if self.on & label != self.on {
-            return false;
-        }
-        self.off & label == 0
+        self.on & label == self.on && self.off & label == 0
     }
 
     // The label meets an ED that it matches, and an EX that it does not.
@@ -62,11 +65,7 @@ impl Automaton {
             initial,
             rejecting,
             edges: 0,
-            from: [AutomatonState(0); 64],
-            to: [AutomatonState(0); 64],
-            on: [0; 64],
-            off: [0; 64],
-            unless: [false; 64],
+            edge_list: [NO_EDGE; 64],
         }
     }
 
@@ -75,16 +74,10 @@ impl Automaton {
         requires arrays { Arrays self }
         requires edges_bound { self.edges < 64 }
         ensures result_value { automaton_of result ≡ model.with_edge (automaton_of self) (edge_of edge) }
-        ensures arrays_2 { Arrays result × (result.edges ≡ self.edges + 1) }
+        ensures arrays_after { Arrays result × (result.edges ≡ self.edges + 1) }
     {
         let n = self.edges;
-        let from = edge.from;
-        let to = edge.to;
-        self.from[n] = from;
-        self.to[n] = to;
-        self.on[n] = edge.on;
-        self.off[n] = edge.off;
-        self.unless[n] = edge.unless;
+        self.edge_list[n] = edge;
         self.edges = n + 1;
         self
     }
@@ -95,17 +88,6 @@ impl Automaton {
         requires i_lt_edges { i < self.edges }
         ensures { edge_of result ≡ edge_in self i }
     {
-        let from = self.from;
-        let to = self.to;
-        let on = self.on;
-        let off = self.off;
-        let unless = self.unless;
-        Edge {
-            from: from[i],
-            to: to[i],
-            on: on[i],
-            off: off[i],
-            unless: unless[i],
-        }
+        self.edge_list[i]
     }
 }

@@ -8,23 +8,22 @@ use native.Mathlib.Numerals.{add-one}
 use native.Mathlib.Omega.{arith}
 use lib.Dec.{eqb}
 use lib.ListN.{length, length-map, get_or, take, drop, length-append}
-use lib.Seq.{take-suc, take-add, drop-cons, length-take-le, drop-nil}
+use lib.Seq.{take-suc, take-add, length-take-le, drop-nil}
 use Rattle.theory.proofs.Bools.{and_is, bool_cases}
 use Rattle.model.specs.Book.{Slot, due, entry, form, holes, well_formed, entries_in, filled}
 use Rattle.model.proofs.BookInverse.{holes_append, holes_form}
 use Rattle.architecture.specs.declared.Architecture.{Architecture}
 use Rattle.architecture.specs.Struct.{IsProper, architecture_of}
-use Rattle.theory.proofs.ListLaws.{taken_next}
 use Rattle.layout.specs.Slots.{slot_of, slots_of}
 use Rattle.choice.proofs.KindWords.{entries_few}
 
 -- ---- the test of a book, slot by slot
-well_cons : (p : Slot) (ps : List Slot) (y : ℕ) (b : List ℕ) → well_formed (p ∷ ps) (y ∷ b) ≡ (well_formed (p ∷ []) (y ∷ []) && well_formed ps b)
+pub well_cons : (p : Slot) (ps : List Slot) (y : ℕ) (b : List ℕ) → well_formed (p ∷ ps) (y ∷ b) ≡ (well_formed (p ∷ []) (y ∷ []) && well_formed ps b)
 unfolding well_formed
 well_cons (due x) ps y b = rw (and-true (eqb y x))
 well_cons entry ps y b = refl
 
--- a book of another length is not well_formed_lem
+-- a book of another length is not well formed
 pub right_length : (ps : List Slot) (b : List ℕ) → well_formed ps b ≡ true → length b ≡ length ps
 unfolding well_formed
 right_length [] [] w = refl
@@ -36,13 +35,6 @@ right_length (entry ∷ ps) (y ∷ b) w = ap suc (right_length ps b w)
 
 pub wrong_length : (ps : List Slot) (b : List ℕ) → (length b ≡ length ps → ⊥) → well_formed ps b ≡ false
 wrong_length ps b h = ⊎_elim (λ w. absurd (h (right_length ps b w))) (λ f. f) (bool_cases (well_formed ps b))
-
--- from slot k on, and from the next on
-pub well_turn : (words b : List ℕ) (n k : ℕ) → k < n → n ≤ length words → k < length b
-    → well_formed (map slot_of (drop k (take n words))) (drop k b)
-    ≡ (well_formed (slot_of (get_or words k 0) ∷ []) (get_or b k 0 ∷ []) && well_formed (map slot_of (drop (k + 1) (take n words))) (drop (k + 1) b))
-well_turn words b n k h l m =
-    rw (taken_next words n k h l, drop-cons b k 0 m, add-one k) (well_cons (slot_of (get_or words k 0)) (map slot_of (drop (suc k) (take n words))) (get_or b k 0) (drop (suc k) b))
 
 -- ---- one slot more
 slots_more : (words : List ℕ) (k : ℕ) → k < length words → slots_of words (k + 1) ≡ slots_of words k ++ (slot_of (get_or words k 0) ∷ [])

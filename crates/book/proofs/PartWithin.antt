@@ -7,7 +7,7 @@ use native.Mathlib.Omega.{arith}
 use lib.ListN.{length, length-append}
 use borrow.Author.Tests.{leb-false, not-false}
 use Rattle.model.specs.declared.Refusal.TheVariants.{NoSuchProcess, BadBook}
-use Rattle.model.specs.Sheet.{Architecture, Sheet, ProperArchitecture}
+use Rattle.model.specs.Sheet.{Architecture, ProperArchitecture}
 use Rattle.model.specs.Reading.{Reading, refused, proper, read_sheet}
 use Rattle.model.specs.Book.{form, records, book_length, book_fault, read_book, part_end}
 use Rattle.model.specs.Calls.{AfterPart, no_process, part_for, part_architecture, cut, part_of}

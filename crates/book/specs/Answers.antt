@@ -1,24 +1,24 @@
--- What the structs of the answers stand for, and what reading answers once the entries are known. These are definitions.
-use Rattle.std.specs.Prelude.{List, ℕ}
+-- What reading's answers stand for, and what reading answers once the entries are known. These are definitions.
+use Rattle.std.specs.Prelude.{List, [], ℕ, Result, Ok, Err}
+use Rattle.model.specs.declared.Refusal.{Refusal}
 use Rattle.model.specs.declared.Refusal.TheVariants.{BadEntry}
-use Rattle.model.specs.declared.Reply.{Reply}
 use Rattle.model.specs.Mask.{if}
 use Rattle.model.specs.Sheet.{Architecture}
-use Rattle.model.specs.Reading.{refused}
 use Rattle.model.specs.Book.{entry_fault}
-use Rattle.model.specs.Calls.{AfterRead, AfterPart, gave}
-use Rattle.book.specs.declared.TablesRead.{TablesRead}
+use Rattle.model.specs.Calls.{AfterRead, AfterPart, tables_of}
 use Rattle.book.specs.declared.Part.{Part}
 
--- what reading handed back
-abbrev pub after_read : TablesRead → AfterRead
-after_read r = record { answer = r.answer; tables = r.tables }
+-- what reading handed back: zeros where it is refused
+abbrev pub after_read : Result (List ℕ) Refusal → AfterRead
+after_read (Ok tables) = record { answer = Ok tt; tables = tables }
+after_read (Err r) = record { answer = Err r; tables = tables_of [] }
 
--- where the part is
-abbrev pub after_part : Part → AfterPart
-after_part p = record { answer = p.answer; start = p.start; end = p.end }
+-- where the part is: nowhere, from 0 to 0, where it is refused
+abbrev pub after_part : Result Part Refusal → AfterPart
+after_part (Ok p) = record { answer = Ok tt; start = p.start; end = p.end }
+after_part (Err r) = record { answer = Err r; start = 0; end = 0 }
 
 -- the tables, or 11
-unfoldable pub fitting_by : Architecture → List ℕ → AfterRead
-unfolding if gave entry_fault
-fitting_by a tables = if (entry_fault a tables) (gave (refused BadEntry)) (record { answer = Reply.Done; tables = tables })
+unfoldable pub fitting_by : Architecture → List ℕ → Result (List ℕ) Refusal
+unfolding if entry_fault
+fitting_by a tables = if (entry_fault a tables) (Err BadEntry) (Ok tables)

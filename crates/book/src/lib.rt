@@ -3,7 +3,6 @@
 
 ghost use Rattle.std.specs.Prelude.{◌≡◌, ◌≤◌, length};
 ghost use Rattle.model.specs.Book as model;
-ghost use Rattle.model.specs.Reading.{refused};
 ghost use Rattle.model.specs.Calls.{written_for, wrote, gave, part_for, cut};
 ghost use Rattle.architecture.specs.Struct.{IsProper, architecture_of, processes_in};
 ghost use Rattle.book.specs.Answers.{after_read, after_part, fitting_by};
@@ -11,76 +10,55 @@ ghost use Rattle.book.specs.Answers.{after_read, after_part, fitting_by};
 mod walk;
 
 use architecture::Architecture;
-use model::{Refusal, Reply};
+use model::Refusal;
 use walk::{is_malformed, put_bytes, take_entries};
 
-// What reading answers, and the tables: zeros where it is refused.
-#[derive(Clone, Copy)]
-pub struct TablesRead {
-    pub answer: Reply,
-    pub tables: [u8; 272],
-}
-
-// What asking for a part answers, and where the part is in the book: nowhere, from 0 to 0, where it is refused.
+// Where the records of a process are in a book.
 #[derive(Clone, Copy)]
 pub struct Part {
-    pub answer: Reply,
     pub start: usize,
     pub end: usize,
 }
 
 // Of a proper sheet: the book of the tables goes to the front of the buffer.
-pub fn write_for(a: Architecture, tables: &[u8; 272], book: &mut [u8]) -> Reply
+pub fn write_for(a: Architecture, tables: &[u8; 272], book: &mut [u8]) -> Result<(), Refusal>
     requires { IsProper a }
     ensures value { result ≡ (wrote (written_for (architecture_of a) tables.now book.old) book.old).answer }
     ensures book_after { book.new ≡ (wrote (written_for (architecture_of a) tables.now book.old) book.old).book }
 {
     if ties::entry_fault(a, tables) {
-        return Reply::Refused(Refusal::BadEntry);
+        return Err(Refusal::BadEntry);
     }
     let mut slots = [0u16; 338];
     let n = layout::fill_slots(&mut slots, a);
     if book.len() < n {
-        return Reply::Refused(Refusal::BufferTooShort);
+        return Err(Refusal::BufferTooShort);
     }
     put_bytes(book, &slots, n, tables);
-    Reply::Done
-}
-
-// Refused: the tables are zeros.
-pub fn unread(refusal: Refusal) -> TablesRead
-    ensures { after_read result ≡ gave (refused refusal) }
-{
-    TablesRead {
-        answer: Reply::Refused(refusal),
-        tables: [0; 272],
-    }
+    Ok(())
 }
 
 // The tables, unless an entry has a value that it may not have.
-fn fitting(a: Architecture, tables: [u8; 272]) -> TablesRead
+fn fitting(a: Architecture, tables: [u8; 272]) -> Result<[u8; 272], Refusal>
     requires proper { IsProper a }
     requires tables_len { length tables ≡ 272 }
-    ensures { after_read result ≡ fitting_by (architecture_of a) tables }
+    ensures { result ≡ fitting_by (architecture_of a) tables }
 {
     if ties::entry_fault(a, &tables) {
-        return unread(Refusal::BadEntry);
+        return Err(Refusal::BadEntry);
     }
-    TablesRead {
-        answer: Reply::Done,
-        tables,
-    }
+    Ok(tables)
 }
 
 // Of a proper sheet: the tables of the book.
-pub fn read_for(a: Architecture, book: &[u8]) -> TablesRead
+pub fn read_for(a: Architecture, book: &[u8]) -> Result<[u8; 272], Refusal>
     requires { IsProper a }
     ensures { after_read result ≡ gave (model.read_book (architecture_of a) book.now) }
 {
     let mut slots = [0u16; 338];
     let n = layout::fill_slots(&mut slots, a);
     if is_malformed(&slots, n, book) {
-        return unread(Refusal::BadBook);
+        return Err(Refusal::BadBook);
     }
     let mut tables = [0u8; 272];
     take_entries(&mut tables, &slots, n, book);
@@ -93,43 +71,24 @@ fn part_start(a: Architecture, i: usize) -> usize
     requires i_le_processes { i ≤ a.processes }
     ensures { result ≡ model.part_start (processes_in a) i }
 {
-    let mut at: usize = 0;
-    let mut k: usize = 0;
-    while k < i {
+    let mut at = 0;
+    for k in 0..i {
         at += a.bound_of(k) * (4 + architecture::row_length(a.inputs_of(k)));
-        k += 1;
     }
     at
 }
 
-// Refused: the part is empty.
-pub fn nowhere(refusal: Refusal) -> Part
-    ensures { after_part result ≡ cut (refused refusal) 0 }
-{
-    Part {
-        answer: Reply::Refused(refusal),
-        start: 0,
-        end: 0,
-    }
-}
-
 // Of a proper sheet: where the records of process i are in the book.
-pub fn range_for(a: Architecture, book: &[u8], i: usize) -> Part
+pub fn range_for(a: Architecture, book: &[u8], i: usize) -> Result<Part, Refusal>
     requires { IsProper a }
     ensures { after_part result ≡ cut (part_for (architecture_of a) book.now i) i }
 {
-    let n = a.processes;
-    if n <= i {
-        return nowhere(Refusal::NoSuchProcess);
+    if a.processes <= i {
+        return Err(Refusal::NoSuchProcess);
     }
-    let read = read_for(a, book);
-    let answer = read.answer;
-    match answer {
-        Reply::Refused(refusal) => nowhere(refusal),
-        Reply::Done => Part {
-            answer: Reply::Done,
-            start: part_start(a, i),
-            end: part_start(a, i + 1),
-        },
-    }
+    read_for(a, book)?;
+    Ok(Part {
+        start: part_start(a, i),
+        end: part_start(a, i + 1),
+    })
 }

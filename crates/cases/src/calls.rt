@@ -4,8 +4,9 @@ ghost use Rattle.std.specs.Prelude.{◌+◌, ◌*◌, ◌≤◌, length};
 
 use crate::print;
 use judging::Annotated;
+use lasso::Lengths;
 use layout::TB;
-use model::{Desk, Finding, Outcome, Refusal, Reply, Shown, Verdict, Written};
+use model::{Desk, Finding, Found, Refusal};
 
 // The front of a line.
 fn open(rt: &impl Print, case: &[u8], call: &[u8]) {
@@ -16,18 +17,15 @@ fn open(rt: &impl Print, case: &[u8], call: &[u8]) {
 
 // The rest of a refused call's line.
 fn refused(rt: &impl Print, refusal: Refusal) {
-    print::text(rt, b" refused ");
-    print::number(rt, refusal.number() as u64);
-    print::text(rt, b"\n");
+    let _ = println!(rt; " refused {}", refusal.number());
 }
 
 // Checks the sheet.
 pub fn check(rt: &impl Print, case: &[u8], sheet: &[u8]) {
     open(rt, case, b"check");
-    let reply = planner::check(sheet);
-    match reply {
-        Reply::Refused(refusal) => refused(rt, refusal),
-        Reply::Done => print::text(rt, b" proper\n"),
+    match planner::check(sheet) {
+        Ok(()) => print::text(rt, b" proper\n"),
+        Err(refusal) => refused(rt, refusal),
     }
 }
 
@@ -39,39 +37,25 @@ pub fn check_front(rt: &impl Print, case: &[u8], sheet: &[u8], bytes: usize)
 }
 
 // How many rows the book has: each opens with TB, which stands nowhere else in a book.
-fn rows(book: &[u8]) -> u64 {
-    let mut count: u64 = 0;
-    let mut at: usize = 0;
-    while at < book.len() {
-        if sheet::is_marked(book, at, &TB) {
-            count += 1;
-        }
-        at += 1;
-    }
-    count
+fn rows(book: &[u8]) -> usize {
+    book.windows(2)
+        .filter(|pair| *pair == TB.as_slice())
+        .count()
 }
 
 // The greatest number of an annotation. A blank is no number.
 fn greatest(annotation: &[u16]) -> u16 {
-    let mut most: u16 = 0;
-    let mut k: usize = 0;
-    while k < annotation.len() {
-        let n = annotation[k];
-        if most < n && n < 65535 {
-            most = n;
-        }
-        k += 1;
-    }
-    most
+    annotation
+        .iter()
+        .copied()
+        .filter(|n| *n < u16::MAX)
+        .max()
+        .unwrap_or(0)
 }
 
 // What find wrote, and what judge says of that.
 fn found(rt: &impl Print, case: &[u8], sheet: &[u8], book: &[u8], annotation: &[u16]) {
-    print::text(rt, b" tables ");
-    print::number(rt, rows(book));
-    print::text(rt, b" greatest ");
-    print::number(rt, greatest(annotation) as u64);
-    print::text(rt, b"\n");
+    let _ = println!(rt; " tables {} greatest {}", rows(book), greatest(annotation));
     open(rt, case, b"find book");
     print::bytes(rt, book);
     open(rt, case, b"find annotation");
@@ -82,11 +66,10 @@ fn found(rt: &impl Print, case: &[u8], sheet: &[u8], book: &[u8], annotation: &[
 // Finds tables into these buffers.
 fn find_into(rt: &impl Print, case: &[u8], sheet: &[u8], book: &mut [u8], annotation: &mut [u16]) {
     open(rt, case, b"find");
-    let outcome = planner::find(sheet, book, annotation);
-    match outcome {
-        Outcome::Refused(refusal) => refused(rt, refusal),
-        Outcome::Nothing => print::text(rt, b" none\n"),
-        Outcome::Tables => found(rt, case, sheet, book, annotation),
+    match planner::find(sheet, book, annotation) {
+        Ok(Found::Tables) => found(rt, case, sheet, book, annotation),
+        Ok(Found::Nothing) => print::text(rt, b" none\n"),
+        Err(refusal) => refused(rt, refusal),
     }
 }
 
@@ -109,25 +92,19 @@ pub fn find(rt: &impl Print, case: &[u8], sheet: &[u8], bytes: usize, numbers: u
 // Judges the book with this annotation.
 pub fn judge(rt: &impl Print, case: &[u8], sheet: &[u8], book: &[u8], annotation: &[u16]) {
     open(rt, case, b"judge");
-    let verdict = planner::judge(sheet, book, annotation);
-    match verdict {
-        Verdict::Refused(refusal) => refused(rt, refusal),
-        Verdict::Found(finding) => match finding {
-            Finding::Yes => print::text(rt, b" yes\n"),
-            Finding::No => print::text(rt, b" no\n"),
-        },
+    match planner::judge(sheet, book, annotation) {
+        Ok(Finding::Yes) => print::text(rt, b" yes\n"),
+        Ok(Finding::No) => print::text(rt, b" no\n"),
+        Err(refusal) => refused(rt, refusal),
     }
 }
 
 // The rest of the line of `loop`: how many steps the two parts of the run have, and their bytes.
-fn run(rt: &impl Print, annotated: Annotated, path: &[u8])
-    requires { (2 * (annotated.stem + annotated.cycle) ≤ length path.now) × (annotated.stem + annotated.cycle ≤ 8192) }
+fn run(rt: &impl Print, lengths: Lengths, path: &[u8])
+    requires { (2 * (lengths.stem + lengths.cycle) ≤ length path.now) × (lengths.stem + lengths.cycle ≤ 8192) }
 {
-    print::text(rt, b" loop ");
-    print::number(rt, annotated.stem as u64);
-    print::text(rt, b" ");
-    print::number(rt, annotated.cycle as u64);
-    let end = 2 * (annotated.stem + annotated.cycle);
+    let _ = print!(rt; " loop {} {}", lengths.stem, lengths.cycle);
+    let end = 2 * (lengths.stem + lengths.cycle);
     print::bytes(rt, &path[0..end]);
 }
 
@@ -141,17 +118,13 @@ fn annotate_into(
     path: &mut [u8],
 ) {
     open(rt, case, b"annotate");
-    let annotated = planner::annotate(sheet, book, annotation, path);
-    let verdict = annotated.verdict;
-    match verdict {
-        Verdict::Refused(refusal) => refused(rt, refusal),
-        Verdict::Found(finding) => match finding {
-            Finding::Yes => {
-                print::annotation(rt, annotation);
-                judge(rt, case, sheet, book, annotation);
-            }
-            Finding::No => run(rt, annotated, path),
-        },
+    match planner::annotate(sheet, book, annotation, path) {
+        Ok(Annotated::Keeps) => {
+            print::annotation(rt, annotation);
+            judge(rt, case, sheet, book, annotation);
+        }
+        Ok(Annotated::Loop(lengths)) => run(rt, lengths, path),
+        Err(refusal) => refused(rt, refusal),
     }
 }
 
@@ -188,10 +161,9 @@ pub fn annotate(rt: &impl Print, case: &[u8], sheet: &[u8], book: &[u8], numbers
 // Writes the tables as a book into this buffer.
 fn write_into(rt: &impl Print, case: &[u8], sheet: &[u8], tables: &[u8; 272], book: &mut [u8]) {
     open(rt, case, b"write");
-    let reply = planner::write(sheet, tables, book);
-    match reply {
-        Reply::Refused(refusal) => refused(rt, refusal),
-        Reply::Done => print::bytes(rt, book),
+    match planner::write(sheet, tables, book) {
+        Ok(()) => print::bytes(rt, book),
+        Err(refusal) => refused(rt, refusal),
     }
 }
 
@@ -205,8 +177,7 @@ fn write(rt: &impl Print, case: &[u8], sheet: &[u8], tables: &[u8; 272], bytes: 
 
 // The front of the tables: A has ten entries.
 fn entries(rt: &impl Print, tables: &[u8; 272]) {
-    let all: &[u8] = tables;
-    print::bytes(rt, &all[0..10]);
+    print::bytes(rt, &tables[..10]);
 }
 
 // Reads a book of A and writes its tables again: the same book comes back.
@@ -214,15 +185,12 @@ pub fn reread(rt: &impl Print, case: &[u8], sheet: &[u8], book: &[u8])
     requires { length book.now ≤ 338 }
 {
     open(rt, case, b"read");
-    let read = planner::read(sheet, book);
-    let answer = read.answer;
-    let tables = read.tables;
-    match answer {
-        Reply::Refused(refusal) => refused(rt, refusal),
-        Reply::Done => {
+    match planner::read(sheet, book) {
+        Ok(tables) => {
             entries(rt, &tables);
             write(rt, case, sheet, &tables, book.len());
         }
+        Err(refusal) => refused(rt, refusal),
     }
 }
 
@@ -230,11 +198,9 @@ pub fn reread(rt: &impl Print, case: &[u8], sheet: &[u8], book: &[u8])
 pub fn part(rt: &impl Print, case: &[u8], sheet: &[u8], book: &[u8], process: usize) {
     open(rt, case, b"part ");
     print::number(rt, process as u64);
-    let range = planner::range(sheet, book, process);
-    let answer = range.answer;
-    match answer {
-        Reply::Refused(refusal) => refused(rt, refusal),
-        Reply::Done => print::bytes(rt, planner::part(sheet, book, process)),
+    match planner::range(sheet, book, process) {
+        Ok(_) => print::bytes(rt, planner::part(sheet, book, process)),
+        Err(refusal) => refused(rt, refusal),
     }
 }
 
@@ -256,14 +222,16 @@ fn places(rt: &impl Print, desk: Desk) {
 // Makes a desk fresh.
 pub fn fresh(rt: &impl Print, case: &[u8], sheet: &[u8], desk: Desk) -> Desk {
     open(rt, case, b"fresh");
-    let made = planner::fresh(sheet, desk);
-    let answer = made.answer;
-    let after = made.desk;
-    match answer {
-        Reply::Refused(refusal) => refused(rt, refusal),
-        Reply::Done => places(rt, after),
+    match planner::fresh(sheet, desk) {
+        Ok(after) => {
+            places(rt, after);
+            after
+        }
+        Err(refusal) => {
+            refused(rt, refusal);
+            desk
+        }
     }
-    after
 }
 
 // Steps a desk by a direction.
@@ -277,33 +245,32 @@ pub fn step(
 ) -> Desk {
     open(rt, case, b"step");
     print::hex(rt, direction);
-    let next = planner::step_by_value(sheet, book, desk, direction);
-    let answer = next.answer;
-    let after = next.desk;
-    match answer {
-        Shown::Refused(refusal) => refused(rt, refusal),
-        Shown::Label(label) => {
+    match planner::step_by_value(sheet, book, desk, direction) {
+        Ok(next) => {
             print::text(rt, b" label");
-            print::hex(rt, label);
+            print::hex(rt, next.label);
             print::text(rt, b" desk");
-            places(rt, after);
+            places(rt, next.desk);
+            next.desk
+        }
+        Err(refusal) => {
+            refused(rt, refusal);
+            desk
         }
     }
-    after
 }
 
 // Joins two sheets into this buffer.
 pub fn join(rt: &impl Print, case: &[u8], first: &[u8], second: &[u8], sheet: &mut [u8]) {
     open(rt, case, b"join");
-    let written = planner::join(first, second, sheet);
-    match written {
-        Written::Refused(refusal) => refused(rt, refusal),
-        Written::Length(length) => {
+    match planner::join(first, second, sheet) {
+        Ok(length) => {
             print::text(rt, b" length ");
             print::number(rt, length as u64);
             print::text(rt, b"\n");
             open(rt, case, b"join sheet");
             print::bytes(rt, sheet);
         }
+        Err(refusal) => refused(rt, refusal),
     }
 }

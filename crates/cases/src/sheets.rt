@@ -37,11 +37,8 @@ fn say_unless(sheet: &mut [u8; 60], at: usize)
     requires at_bound { at + 6 ≤ 60 }
     ensures { length sheet.new ≡ 60 }
 {
-    let on = sheet[at + 4];
-    let off = sheet[at + 5];
     sheet[at + 1] = b'X';
-    sheet[at + 4] = off;
-    sheet[at + 5] = on;
+    sheet.swap(at + 4, at + 5);
 }
 
 // A, whose waiting edges say unless.
@@ -56,10 +53,7 @@ pub fn waiting_unless() -> [u8; 60]
 
 // The second byte of the mark of edge k: each other edge says unless.
 fn kind(k: usize) -> u8 {
-    if k % 2 == 0 {
-        return b'D';
-    }
-    b'X'
+    if k % 2 == 0 { b'D' } else { b'X' }
 }
 
 // E with 64 edges, ED and EX by turns, and a mark with this second byte. Four fields follow that one too.
@@ -68,12 +62,10 @@ pub fn edges_then(mark: u8) -> [u8; 408]
 {
     let mut sheet = [0u8; 408];
     sheet[..CASE_E.len()].copy_from_slice(&CASE_E);
-    let mut k: usize = 0;
-    while k < 65 {
+    for k in 0..65 {
         let at = 16 + 6 * k;
         sheet[at] = b'E';
         sheet[at + 1] = kind(k);
-        k += 1;
     }
     sheet[401] = mark;
     sheet

@@ -5,17 +5,16 @@ ghost use Rattle.std.specs.Prelude.{◌≡◌};
 ghost use Rattle.model.specs.Calls.{check_of};
 ghost use Rattle.cause.specs.Fault.{faulty, FaultEnds};
 
-use model::{Refusal, Reply};
+use model::Refusal;
 use std::env::Env;
 
 // Is a whole record of these bytes at fault?
 fn is_faulty(sheet: &[u8]) -> bool
     ensures { result ≡ faulty (check_of sheet.now) }
 {
-    let reply = planner::check(sheet);
-    match reply {
-        Reply::Refused(refusal) => 1 < refusal.number(),
-        Reply::Done => false,
+    match planner::check(sheet) {
+        Ok(()) => false,
+        Err(refusal) => 1 < refusal.number(),
     }
 }
 
@@ -23,14 +22,12 @@ fn is_faulty(sheet: &[u8]) -> bool
 pub fn fault_end(sheet: &[u8]) -> usize
     ensures { FaultEnds sheet.now result }
 {
-    let mut n: usize = 0;
-    while n < sheet.len() {
+    for n in 0..sheet.len() {
         if is_faulty(&sheet[..n]) {
             return n;
         }
-        n += 1;
     }
-    n
+    sheet.len()
 }
 
 // ---- the words
@@ -86,79 +83,74 @@ fn say_cause(rt: &impl Eprint, refusal: Refusal) {
 }
 
 // Where the sheet is at fault.
-fn say_place(rt: &impl Eprint, number: u32, sheet: &[u8]) {
-    if number == 1 {
-        say(rt, b": after byte ");
-    } else if number == 2 {
-        say(rt, b": at byte ");
-    } else {
-        say(rt, b": in the record that ends at byte ");
+fn say_place(rt: &impl Eprint, refusal: Refusal, sheet: &[u8]) {
+    match refusal {
+        Refusal::SheetTooShort => say(rt, b": after byte "),
+        Refusal::WrongMark => say(rt, b": at byte "),
+        _ => say(rt, b": in the record that ends at byte "),
     }
-    let end = fault_end(sheet);
-    let _ = eprint!(rt; "{end}");
+    let _ = eprint!(rt; "{}", fault_end(sheet));
 }
 
-// The number of a fault of the sheet itself.
-fn is_of_sheet(number: u32) -> bool {
-    if number == 15 {
-        return true;
-    }
-    if number == 21 {
-        return true;
-    }
-    number <= 7
+// A fault of the sheet itself.
+fn is_of_sheet(refusal: Refusal) -> bool {
+    matches!(
+        refusal,
+        Refusal::SheetTooShort
+            | Refusal::WrongMark
+            | Refusal::BadArchitecture
+            | Refusal::BadProcess
+            | Refusal::NoOwnerOrTooMany
+            | Refusal::BadAutomaton
+            | Refusal::BadEdge
+            | Refusal::BadTie
+            | Refusal::BadPrompt
+    )
 }
 
 // The argument that names the file at fault: sheet, book and annotation are the first, the second and the third of every program.
-fn culprit(number: u32) -> usize {
-    if is_of_sheet(number) {
-        return 1;
+fn culprit(refusal: Refusal) -> usize {
+    match refusal {
+        Refusal::AnnotationBufferTooShort => 3,
+        _ if is_of_sheet(refusal) => 1,
+        _ => 2,
     }
-    if number == 9 {
-        return 3;
-    }
-    2
 }
 
 // The line for a refusal for which the file that argument i names is at fault.
 fn explain_file<R: Env + Eprint>(rt: &R, i: usize, refusal: Refusal, sheet: &[u8]) {
-    let number = refusal.number();
     input::print_name(rt, i);
     say(rt, b": ");
     say_cause(rt, refusal);
-    if is_of_sheet(number) {
-        say_place(rt, number, sheet);
+    if is_of_sheet(refusal) {
+        say_place(rt, refusal, sheet);
     }
     say(rt, b"\n");
 }
 
 // The line for a refusal.
 pub fn explain<R: Env + Eprint>(rt: &R, refusal: Refusal, sheet: &[u8]) {
-    explain_file(rt, culprit(refusal.number()), refusal, sheet);
+    explain_file(rt, culprit(refusal), refusal, sheet);
 }
 
 // The line for a sheet that is refused; none for a proper one.
 pub fn explain_sheet<R: Env + Eprint>(rt: &R, sheet: &[u8]) {
-    let reply = planner::check(sheet);
-    if let Reply::Refused(refusal) = reply {
+    if let Err(refusal) = planner::check(sheet) {
         explain(rt, refusal, sheet);
     }
 }
 
 // The line for a sheet or a book that is refused; none for proper ones.
 pub fn explain_book<R: Env + Eprint>(rt: &R, sheet: &[u8], book: &[u8]) {
-    let reading = planner::read(sheet, book);
-    let answer = reading.answer;
-    if let Reply::Refused(refusal) = answer {
+    if let Err(refusal) = planner::read(sheet, book) {
         explain(rt, refusal, sheet);
     }
 }
 
 // The line for two sheets that are not joined: the first is at fault only by itself.
 pub fn explain_joining<R: Env + Eprint>(rt: &R, refusal: Refusal, first: &[u8], second: &[u8]) {
-    let reply = planner::check(first);
-    match reply {
-        Reply::Refused(_) => explain_file(rt, 1, refusal, first),
-        Reply::Done => explain_file(rt, 2, refusal, second),
+    match planner::check(first) {
+        Ok(()) => explain_file(rt, 2, refusal, second),
+        Err(_) => explain_file(rt, 1, refusal, first),
     }
 }

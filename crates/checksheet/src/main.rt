@@ -5,20 +5,20 @@ ghost use Rattle.std.specs.Prelude.{◌≡◌, ◌≤◌, length};
 ghost use Rattle.template.specs.Holds.{Holds};
 ghost use Rattle.checksheet.specs.Printed.{reply_text, printed};
 
-use model::Reply;
+use model::Refusal;
 use std::env::Env;
 
 // One byte more than the longest proper sheet, so that a byte after EN is seen.
 const ROOM: usize = 434;
 
 // The text of a reply, at the front of the buffer: answers its length.
-fn reply_text(text: &mut [u8], reply: Reply) -> usize
+fn reply_text(text: &mut [u8], reply: Result<(), Refusal>) -> usize
     requires { 32 ≤ length text.old }
     ensures { Holds text.new result (reply_text reply) }
 {
     match reply {
-        Reply::Refused(refusal) => text::refused_text(text, refusal),
-        Reply::Done => text::answer_text(text, b"proper\n"),
+        Ok(()) => text::answer_text(text, b"proper\n"),
+        Err(refusal) => text::refused_text(text, refusal),
     }
 }
 
@@ -35,7 +35,7 @@ fn answer<R: Env + Print + Eprint>(rt: &R, sheet: &[u8]) {
     let mut text = [0u8; 32];
     let end = reply_text(&mut text, reply);
     put_out(rt, sheet, &text[..end]);
-    if let Reply::Refused(refusal) = reply {
+    if let Err(refusal) = reply {
         cause::explain(rt, refusal, sheet);
     }
 }

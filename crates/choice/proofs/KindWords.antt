@@ -1,21 +1,17 @@
--- The words of a choice's entries: what they say, the next row or process among them, and the test of one entry after the other.
+-- The words of a choice's entries: what they say, and the next row or process among them.
 use mathlib.Core.Path.{◌≡◌, refl, ap, ap₂, ◌∙◌}
-use mathlib.Core.Bool.{◌&&◌}
 use mathlib.Core.List.{List, [], ◌∷◌, map}
 use Prim.Native.Nat.{ℕ, suc, ◌+◌, ◌-◌, ◌*◌, ◌/◌, ◌%◌, ◌^◌, ◌<◌, ◌≤◌}
-use native.Mathlib.Numerals.{add-one}
 use native.Mathlib.Omega.{arith}
-use lib.ListN.{length, get_or, take, drop}
-use lib.Seq.{drop-cons}
+use lib.ListN.{length, drop}
 use borrow.Author.Tests.{eq-eqb, ne_eqb}
 use Rattle.model.specs.Mask.{if, count}
 use Rattle.model.specs.Sheet.{Process}
 use Rattle.model.specs.Compose.{row_length}
-use Rattle.model.specs.Choice.{Entry, output, next, may, row, times, rows, entries, fits}
+use Rattle.model.specs.Choice.{Entry, output, next, row, times, rows, entries}
 use Rattle.architecture.specs.declared.Architecture.{Architecture}
 use Rattle.architecture.specs.Struct.{IsProper, architecture_of, process_in, processes_in}
 use Rattle.architecture.proofs.ProcessesOfArrays.{process_next, processes_end, entries_are, start_few}
-use Rattle.theory.proofs.ListLaws.{taken_next}
 use Rattle.append.proofs.Appending.{Opens, opens_codes, codes_same}
 use Rattle.choice.specs.Kinds.{kind_of, kind_code, row_codes, process_codes}
 
@@ -55,7 +51,7 @@ module _ (a : Architecture) where
   unfolding rows
   kinds_open i h =
       rw (process_next (process_in a) a.processes i h)
-      (opens_codes kind_code (times (get_or a.bounds i 0) (row (process_in a i))) (rows (drop (i + 1) (processes_in a))))
+      (opens_codes kind_code (times (process_in a i).bound (row (process_in a i))) (rows (drop (i + 1) (processes_in a))))
 
   -- behind all processes
   pub kinds_end : (i : ℕ) → i ≡ a.processes → kinds_from i ≡ []
@@ -65,10 +61,3 @@ module _ (a : Architecture) where
   -- all entries
   pub entries_few : IsProper a → length (entries (architecture_of a)) ≤ 272
   entries_few z = omega (arith, entries_are a, start_few a z a.processes (omega arith), z.arrays.few_processes)
-
--- ---- the test from entry k on, and from the next on
-pub fits_turn : (words c : List ℕ) (n k : ℕ) → k < n → n ≤ length words → k < length c
-    → fits (map kind_of (drop k (take n words))) (drop k c)
-    ≡ (may (kind_of (get_or words k 0)) (get_or c k 0) && fits (map kind_of (drop (k + 1) (take n words))) (drop (k + 1) c))
-unfolding fits
-fits_turn words c n k h l m = rw (taken_next words n k h l, drop-cons c k 0 m, add-one k)

@@ -1,5 +1,5 @@
 -- How an array of words says what each entry of a choice may be. These are definitions.
-use Rattle.std.specs.Prelude.{List, ◌∷◌, map, ℕ, ◌+◌, ◌*◌, ◌/◌, ◌%◌, eqb, get_or, take, replicate}
+use Rattle.std.specs.Prelude.{List, ◌∷◌, map, ℕ, ◌+◌, ◌*◌, ◌/◌, ◌%◌, eqb, take, replicate}
 use Rattle.model.specs.Mask.{if}
 use Rattle.model.specs.Choice.{Entry, output, next, row, times}
 use Rattle.architecture.specs.declared.Architecture.{Architecture}
@@ -25,4 +25,4 @@ row_codes outputs bound states = outputs * 2 ∷ replicate states (bound * 2 + 1
 
 -- the words of all rows of process i
 abbrev pub process_codes : Architecture → ℕ → List ℕ
-process_codes a i = map kind_code (times (get_or a.bounds i 0) (row (process_in a i)))
+process_codes a i = map kind_code (times (process_in a i).bound (row (process_in a i)))

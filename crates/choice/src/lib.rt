@@ -1,4 +1,5 @@
 // What each entry of a choice may be, as words, and the test of entries against these words.
+// An even word is an output's and an odd one a next state's, and no enum: `kind_of`, of which the contracts here speak, has this form.
 #![tactic(auto)]
 
 ghost use Rattle.std.specs.Prelude.{◌≡◌, not, ◌+◌, ◌*◌, ◌<◌, ◌≤◌, length};
@@ -14,14 +15,14 @@ use architecture::Architecture;
 fn output_word(mask: u8) -> u16
     ensures { result ≡ mask * 2 }
 {
-    mask as u16 * 2
+    u16::from(mask) * 2
 }
 
 // Twice the bound, and one more.
 fn next_word(bound: u8) -> u16
     ensures { result ≡ bound * 2 + 1 }
 {
-    bound as u16 * 2 + 1
+    u16::from(bound) * 2 + 1
 }
 
 // One row: an output mask, and then the next states.
@@ -29,7 +30,7 @@ fn put_row(kinds: &mut [u16], at: usize, outputs: u8, bound: u8, states: usize) 
     requires { at + (1 + states) ≤ length kinds.old }
     ensures { Appends kinds.old at (row_codes outputs bound states) result kinds.new }
 {
-    let after_output = append::word(kinds, at, output_word(outputs));
+    let after_output = append::put(kinds, at, output_word(outputs));
     append::fill(kinds, after_output, next_word(bound), states)
 }
 
@@ -41,15 +42,11 @@ fn put_rows(kinds: &mut [u16], start: usize, a: Architecture, i: usize) -> usize
     ensures { Appends kinds.old start (process_codes a i) result kinds.new }
 {
     let states = architecture::row_length(a.inputs_of(i)) - 1;
-    let all_outputs = a.outputs;
-    let all_bounds = a.bounds;
-    let outputs = all_outputs[i];
-    let bound = all_bounds[i];
+    let outputs = a.outputs_of(i);
+    let bound = a.bound_of(i) as u8;
     let mut at = start;
-    let mut x: u8 = 0;
-    while x < bound {
+    for _ in 0..bound {
         at = put_row(kinds, at, outputs, bound, states);
-        x += 1;
     }
     at
 }
@@ -61,12 +58,9 @@ pub fn fill_kinds(kinds: &mut [u16], a: Architecture) -> usize
     ensures value { (result ≡ length (entries (architecture_of a))) × (result ≤ 272) }
     ensures result_after { kinds_of kinds.new result ≡ entries (architecture_of a) }
 {
-    let n = a.processes;
-    let mut at: usize = 0;
-    let mut i: usize = 0;
-    while i < n {
+    let mut at = 0;
+    for i in 0..a.processes {
         at = put_rows(kinds, at, a, i);
-        i += 1;
     }
     at
 }
@@ -77,10 +71,12 @@ pub fn may_be(kind: u16, value: u8) -> bool
     ensures { result ≡ may (kind_of kind) value }
 {
     let most = kind / 2;
+    let value = value as u16;
     if kind % 2 == 0 {
-        return value as u16 & most == value as u16;
+        value & most == value
+    } else {
+        value < most
     }
-    (value as u16) < most
 }
 
 // One of the first n entries has a value that it may not have.
@@ -88,12 +84,8 @@ pub fn is_misfit(kinds: &[u16], n: usize, tables: &[u8]) -> bool
     requires { (n ≤ length kinds.now) × (n ≤ length tables.now) }
     ensures { result ≡ not (fits (kinds_of kinds.now n) tables.now) }
 {
-    let mut k: usize = 0;
-    while k < n {
-        if !may_be(kinds[k], tables[k]) {
-            return true;
-        }
-        k += 1;
-    }
-    false
+    kinds[..n]
+        .iter()
+        .zip(&tables[..n])
+        .any(|(kind, value)| !may_be(*kind, *value))
 }

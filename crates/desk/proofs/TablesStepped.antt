@@ -9,12 +9,10 @@ use lib.Seq.{length-take-le}
 use Rattle.model.specs.declared.Refusal.TheVariants.{BadDirectionOrDesk}
 use Rattle.model.specs.declared.ProcessState.{ProcessState}
 use Rattle.model.specs.declared.Desk.{Desk}
-use Rattle.model.specs.declared.Shown.{Shown}
-use Rattle.model.specs.declared.Stepped.{Stepped}
 use Rattle.model.specs.Reading.{refuse◌when◌else◌, proper}
 use Rattle.model.specs.Compose as compose
 use Rattle.model.specs.Choice.{IsTables, chosen}
-use Rattle.model.specs.Desk.{numbers, on_desk, showing, desk_fault, step_by}
+use Rattle.model.specs.Desk.{AfterStep, numbers, on_desk, showing, desk_fault, step_by}
 use Rattle.model.proofs.ComposedNumbers as model
 use Rattle.architecture.specs.declared.Architecture.{Architecture}
 use Rattle.architecture.specs.Struct.{IsProper, architecture_of, process_in}
@@ -24,6 +22,7 @@ use Rattle.composition.specs.Struct.{composed_of, IsState}
 use Rattle.composition.proofs.StructIsModelState.{state_in, state_back, step_state}
 use Rattle.composition.proofs.ChoiceAtFront.{label_chosen, step_chosen}
 use Rattle.desk.proofs.DeskFaults.{faultless}
+use Rattle.std.specs.Prelude.{Ok, Err}
 
 module _ (a : Architecture) (z : IsProper a) (tables : List ℕ) (f : IsTables (architecture_of a) (chosen (architecture_of a) tables)) (k : Desk) (long : length k.states ≡ 4) (d : ℕ) where
   -- the composed state on the desk, as a struct
@@ -40,10 +39,10 @@ module _ (a : Architecture) (z : IsProper a) (tables : List ℕ) (f : IsTables (
   on_a_desk = ap (λ (n : ℕ). record { environment = k.environment; states = take n (numbers k.states) }) (processes_length a.processes (process_in a))
 
   -- what is answered, with the test for 14
-  abbrev due : Bool → Stepped
+  abbrev due : Bool → AfterStep
   due b = step_by (architecture_of a) (refuse BadDirectionOrDesk when b else proper (chosen (architecture_of a) tables)) k d
 
-  abbrev answer_due : Stepped
+  abbrev answer_due : AfterStep
   answer_due = due (desk_fault (architecture_of a) (on_desk (architecture_of a) k) d)
 
   -- by the test's outcome
@@ -51,7 +50,7 @@ module _ (a : Architecture) (z : IsProper a) (tables : List ℕ) (f : IsTables (
   tested e = ap due (sym e ∙ ap (λ (u : compose.Composed). desk_fault (architecture_of a) u d) (sym on_a_desk))
 
   -- 14
-  pub refused_due : desk_fault (architecture_of a) now_on d ≡ true → record { answer = Shown.Refused BadDirectionOrDesk; desk = k } ≡ answer_due
+  pub refused_due : desk_fault (architecture_of a) now_on d ≡ true → record { answer = Err BadDirectionOrDesk; desk = k } ≡ answer_due
   unfolding step_by refuse◌when◌else◌
   refused_due e = tested e
 
@@ -77,12 +76,12 @@ module _ (a : Architecture) (z : IsProper a) (tables : List ℕ) (f : IsTables (
       new_state = step_state a z t (chosen (architecture_of a) tables) d f is_state faults.1 u u-long steps
 
       -- its label and the desk are those due
-      pub step_due : record { answer = Shown.Label (compose.label (architecture_of a) tables (composed_of a.processes u)); desk = showing k (composed_of a.processes u) } ≡ answer_due
+      pub step_due : record { answer = Ok (compose.label (architecture_of a) tables (composed_of a.processes u)); desk = showing k (composed_of a.processes u) } ≡ answer_due
       unfolding step_by refuse◌when◌else◌
       step_due =
           let c = chosen (architecture_of a) tables in
-          ap (λ (l : ℕ). record { answer = Shown.Label l; desk = showing k (composed_of a.processes u) })
+          ap (λ (l : ℕ). record { answer = Ok l; desk = showing k (composed_of a.processes u) })
           (label_chosen (architecture_of a) tables f (composed_of a.processes u) (state_in a u (facts z).few_processes new_state))
-          ∙ ap (λ (v : compose.Composed). record { answer = Shown.Label (compose.label (architecture_of a) c v); desk = showing k v })
+          ∙ ap (λ (v : compose.Composed). record { answer = Ok (compose.label (architecture_of a) c v); desk = showing k v })
           (steps ∙ ap (λ (v : compose.Composed). compose.step (architecture_of a) c v d) (sym on_a_desk))
           ∙ tested fits

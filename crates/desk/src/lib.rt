@@ -3,7 +3,6 @@
 
 ghost use Rattle.std.specs.Prelude.{◌≡◌};
 ghost use Rattle.model.specs.declared.Refusal.TheVariants.{BadDirectionOrDesk};
-ghost use Rattle.model.specs.declared.Shown.{Shown as Answered};
 ghost use Rattle.model.specs.Reading.{refuse◌when◌else◌, proper};
 ghost use Rattle.model.specs.Compose.{initial};
 ghost use Rattle.model.specs.Choice.{IsTables, chosen};
@@ -13,7 +12,7 @@ ghost use Rattle.composition.specs.Struct.{composed_of};
 
 use architecture::Architecture;
 use composition::Composed;
-use model::{Desk, Refusal, Reply, Shown, Stepped};
+use model::{Desk, Refusal, Stepped};
 
 // The desk with this composed state on it: the places of processes that the sheet lacks stay.
 fn showing(a: Architecture, desk: Desk, t: Composed) -> Desk
@@ -22,11 +21,7 @@ fn showing(a: Architecture, desk: Desk, t: Composed) -> Desk
 {
     let n = a.processes;
     let mut states = desk.states;
-    let mut i: usize = 0;
-    while i < n {
-        states[i] = t.process_state(i);
-        i += 1;
-    }
+    states[..n].copy_from_slice(&t.states[..n]);
     Desk {
         states,
         environment: t.environment,
@@ -46,13 +41,11 @@ fn is_too_high(a: Architecture, t: Composed) -> bool
     requires { IsProper a }
     ensures { result ≡ model.too_high (processes_in a) (composed_of a.processes t).states }
 {
-    let mut i: usize = 0;
-    while i < a.processes {
+    for i in 0..a.processes {
         let x = t.process_state(i);
         if a.bound_of(i) <= x.0 as usize {
             return true;
         }
-        i += 1;
     }
     false
 }
@@ -72,21 +65,16 @@ fn misfits(a: Architecture, t: Composed, direction: u8) -> bool
     is_too_high(a, t)
 }
 
-// Refused: the desk is handed back as it came.
-pub fn refused(refusal: Refusal, desk: Desk) -> Stepped
-    ensures { result ≡ record { answer = Answered.Refused refusal; desk = desk } }
-{
-    Stepped {
-        answer: Shown::Refused(refusal),
-        desk,
-    }
-}
-
 // Of the tables of a choice: the desk after the step, and its label; or 14.
-fn step_tables(a: Architecture, tables: &[u8], desk: Desk, direction: u8) -> Stepped
+fn step_tables(
+    a: Architecture,
+    tables: &[u8],
+    desk: Desk,
+    direction: u8,
+) -> Result<Stepped, Refusal>
     requires proper { IsProper a }
     requires tables { IsTables (architecture_of a) (chosen (architecture_of a) tables.now) }
-    ensures { result
+    ensures { model.after_step result desk
         ≡ model.step_by (architecture_of a)
         (refuse BadDirectionOrDesk when model.desk_fault (architecture_of a) (model.on_desk (architecture_of a) desk) direction else proper (chosen (architecture_of a) tables.now))
         desk direction }
@@ -97,27 +85,20 @@ fn step_tables(a: Architecture, tables: &[u8], desk: Desk, direction: u8) -> Ste
         environment: desk.environment,
     };
     if misfits(a, t, direction) {
-        return refused(Refusal::BadDirectionOrDesk, desk);
+        return Err(Refusal::BadDirectionOrDesk);
     }
     let next = t.step(a, tables, direction);
-    Stepped {
-        answer: Shown::Label(next.label(a, tables)),
+    Ok(Stepped {
+        label: next.label(a, tables),
         desk: showing(a, desk, next),
-    }
+    })
 }
 
-// Of a proper sheet: the book is read, and the desk moved on by one direction. A refusal leaves the desk.
-pub fn step_for(a: Architecture, book: &[u8], desk: Desk, direction: u8) -> Stepped
+// Of a proper sheet: the book is read, and the desk moved on by one direction.
+pub fn step_for(a: Architecture, book: &[u8], desk: Desk, direction: u8) -> Result<Stepped, Refusal>
     requires { IsProper a }
-    ensures { result ≡ model.step_by (architecture_of a) (model.choice_for (architecture_of a) book.now desk direction) desk direction }
+    ensures { model.after_step result desk ≡ model.step_by (architecture_of a) (model.choice_for (architecture_of a) book.now desk direction) desk direction }
 {
-    let read = book::read_for(a, book);
-    let answer = read.answer;
-    match answer {
-        Reply::Refused(refusal) => refused(refusal, desk),
-        Reply::Done => {
-            let tables = read.tables;
-            step_tables(a, &tables, desk, direction)
-        }
-    }
+    let tables = book::read_for(a, book)?;
+    step_tables(a, &tables, desk, direction)
 }

@@ -8,7 +8,6 @@ ghost use Rattle.template.specs.Holds.{Holds};
 ghost use Rattle.text.specs.Text.{text_or_refused};
 ghost use Rattle.draw.specs.Drawn.{drawn, with_book, drawn_with};
 
-use model::Reply;
 use sheet::Sheet;
 use std::env::Env;
 
@@ -24,14 +23,9 @@ fn sheet_text(text: &mut [u8], sheet: &[u8]) -> usize
     requires { 65536 ≤ length text.old }
     ensures { Holds text.new result (drawn sheet.now) }
 {
-    let reading = sheet::read(sheet);
-    let answer = reading.answer;
-    match answer {
-        Reply::Refused(refusal) => text::refused_text(text, refusal),
-        Reply::Done => {
-            let read = reading.sheet;
-            drawing::sheet_text(text, read)
-        }
+    match sheet::read(sheet) {
+        Ok(read) => drawing::sheet_text(text, read),
+        Err(refusal) => text::refused_text(text, refusal),
     }
 }
 
@@ -41,15 +35,9 @@ fn tables_text(text: &mut [u8], sheet: Sheet, book: &[u8]) -> usize
     requires proper { IsProper sheet }
     ensures { Holds text.new result (text_or_refused (with_book (sheet_of sheet) book.now)) }
 {
-    let a = sheet.architecture;
-    let reading = book::read_for(a, book);
-    let answer = reading.answer;
-    match answer {
-        Reply::Refused(refusal) => text::refused_text(text, refusal),
-        Reply::Done => {
-            let tables = reading.tables;
-            drawing::book_text(text, sheet, &tables)
-        }
+    match book::read_for(sheet.architecture, book) {
+        Ok(tables) => drawing::book_text(text, sheet, &tables),
+        Err(refusal) => text::refused_text(text, refusal),
     }
 }
 
@@ -58,14 +46,9 @@ fn book_text(text: &mut [u8], sheet: &[u8], book: &[u8]) -> usize
     requires { 65536 ≤ length text.old }
     ensures { Holds text.new result (drawn_with sheet.now book.now) }
 {
-    let reading = sheet::read(sheet);
-    let answer = reading.answer;
-    match answer {
-        Reply::Refused(refusal) => text::refused_text(text, refusal),
-        Reply::Done => {
-            let read = reading.sheet;
-            tables_text(text, read, book)
-        }
+    match sheet::read(sheet) {
+        Ok(read) => tables_text(text, read, book),
+        Err(refusal) => text::refused_text(text, refusal),
     }
 }
 

@@ -1,27 +1,28 @@
 -- The conditions of a move, an index at a time: which part of the text is due next, and what is left behind it.
-use mathlib.Core.Path.{◌≡◌}
+use mathlib.Core.Path.{◌≡◌, refl}
+use mathlib.Core.Bool.{Bool, true, false, cond}
 use mathlib.Core.List.{List, []}
 use Prim.Native.Nat.{ℕ, ◌+◌, ◌<◌, ◌≤◌}
 use native.Mathlib.Numerals.{add-one}
+use native.Mathlib.Omega.{arith}
 use lib.Dec.{eqb}
 use lib.ListN.{length, get_or, drop, drop_of_length-le}
 use lib.Seq.{drop-cons}
-use Rattle.theory.specs.Lists.{one, filter}
-use Rattle.theory.proofs.ListLaws.{filter_length}
+use Rattle.std.specs.List.{count_by}
+use Rattle.std.proofs.lemmas.List.Recursion.{is_count_by}
+use Rattle.theory.specs.Lists.{put, filter}
 use Rattle.model.specs.Mask.{if}
 use Rattle.append.proofs.Appending.{Opens}
 use Rattle.drawing.specs.Drawing.{ways, condition_text, conditions_text}
 
-module _ (y : ℕ) (next : List ℕ) (k : ℕ) where
-  -- index k counts where it leads to y
-  pub ways_turn : k < length next → ways y (drop k next) ≡ one (eqb (get_or next k 0) y) + ways y (drop (k + 1) next)
-  unfolding ways
-  ways_turn h = rw (add-one k, drop-cons next k 0 h) (filter_length (λ z. eqb z y) (get_or next k 0) _)
-
-  -- no index is left
-  pub ways_end : length next ≤ k → ways y (drop k next) ≡ 0
-  unfolding ways filter
-  ways_end h = rw (drop_of_length-le next {i = k} h)
+-- as many ways as the library counts
+pub ways_are : (y : ℕ) (next : List ℕ) → ways y next ≡ count_by (λ z. eqb z y) next
+unfolding ways filter put
+ways_are y = is_count_by (ways y) (λ z. eqb z y) refl (λ z next. more (eqb z y) z (filter (λ z. eqb z y) next))
+  where
+    more : (b : Bool) (z : ℕ) (rest : List ℕ) → length (put b z rest) ≡ cond b (1 + length rest) (length rest)
+    more true z rest = omega arith
+    more false z rest = refl
 
 module _ (inputs y : ℕ) (next : List ℕ) (k : ℕ) where
   -- the text from index k on

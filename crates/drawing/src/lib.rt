@@ -11,7 +11,7 @@ ghost use Rattle.append.specs.Appends.{Appends};
 ghost use Rattle.template.specs.Holds.{Holds};
 ghost use Rattle.drawing.specs.Drawing as spec;
 
-use append::put_bytes;
+use append::put_all;
 use architecture::Architecture;
 use automaton::Automaton;
 use model::{AutomatonState, ProcessState};
@@ -36,18 +36,16 @@ fn put_state(text: &mut [u8], at: usize, q: AutomatonState, is_rejecting: bool) 
     put_filled(text, at, b"        q# [label=\"#\"];\n", &[n, n])
 }
 
-// All states. The counter runs up to their count, and is made an automaton state for each.
+// All states: each number below their count is made an automaton state.
 fn put_states(text: &mut [u8], start: usize, states: u8, rejecting: u16) -> usize
     requires { start + length (spec.states_text states rejecting) ≤ length text.old }
     ensures { Appends text.old start (spec.states_text states rejecting) result text.new }
 {
     let mut left = rejecting;
     let mut at = start;
-    let mut q: u8 = 0;
-    while q < states {
+    for q in 0..states {
         at = put_state(text, at, AutomatonState(q), left % 2 == 1);
         left /= 2;
-        q += 1;
     }
     at
 }
@@ -66,6 +64,7 @@ fn put_automaton_front(text: &mut [u8], at: usize, initial: AutomatonState) -> u
 }
 
 // Its cluster.
+#[tactic(auto, unfolding(crate::specs::Drawing::automaton_text, automaton::specs::Struct::automaton_of))]
 fn put_automaton(text: &mut [u8], at: usize, u: Automaton) -> usize
     requires arrays { Arrays u }
     requires u_in_bounds { at + length (spec.automaton_text (automaton_of u)) ≤ length text.old }
@@ -80,7 +79,7 @@ fn put_automaton(text: &mut [u8], at: usize, u: Automaton) -> usize
         b"        q# -> q# [label=\"unless ?\"];\n",
         u,
     );
-    put_bytes(text, after_edges, b"    }\n")
+    put_all(text, after_edges, b"    }\n")
 }
 
 // ---- the moves of a state
@@ -117,10 +116,8 @@ fn put_conditions(text: &mut [u8], start: usize, mask: u8, y: ProcessState, next
     ensures { Appends text.old start (spec.conditions_text mask y.0 next.now 0) result text.new }
 {
     let mut at = start;
-    let mut index: usize = 0;
-    while index < next.len() {
-        at = put_way(text, at, mask, y, ProcessState(next[index]), index);
-        index += 1;
+    for (index, &z) in next.iter().enumerate() {
+        at = put_way(text, at, mask, y, ProcessState(z), index);
     }
     at
 }
@@ -129,15 +126,7 @@ fn put_conditions(text: &mut [u8], start: usize, mask: u8, y: ProcessState, next
 fn ways(y: ProcessState, next: &[u8]) -> usize
     ensures { result ≡ spec.ways y.0 next.now }
 {
-    let mut n: usize = 0;
-    let mut index: usize = 0;
-    while index < next.len() {
-        if next[index] == y.0 {
-            n += 1;
-        }
-        index += 1;
-    }
-    n
+    next.iter().filter(|z| **z == y.0).count()
 }
 
 // The conditions of a move to y, of which there are n.
@@ -147,7 +136,7 @@ fn put_label(text: &mut [u8], at: usize, mask: u8, y: ProcessState, next: &[u8],
     ensures { Appends text.old at (spec.label_text mask y.0 next.now) result text.new }
 {
     if n == next.len() {
-        return put_bytes(text, at, b"true");
+        return put_all(text, at, b"true");
     }
     put_conditions(text, at, mask, y, next)
 }
@@ -184,10 +173,10 @@ fn put_move(
     }
     let after_front = put_move_front(text, at, i, x, y);
     let after_label = put_label(text, after_front, mask, y, next, n);
-    put_bytes(text, after_label, b"\"];\n")
+    put_all(text, after_label, b"\"];\n")
 }
 
-// All moves from state x. The counter runs up to the bound, and is made a process state for each.
+// All moves from state x: each number below the bound is made a process state.
 fn put_moves(
     text: &mut [u8],
     start: usize,
@@ -201,10 +190,8 @@ fn put_moves(
     ensures { Appends text.old start (spec.moves_text i x.0 mask next.now bound) result text.new }
 {
     let mut at = start;
-    let mut y: u8 = 0;
-    while y < bound {
+    for y in 0..bound {
         at = put_move(text, at, i, x, mask, next, ProcessState(y));
-        y += 1;
     }
     at
 }
@@ -225,6 +212,7 @@ fn put_state_front(text: &mut [u8], at: usize, i: usize, x: ProcessState, output
 }
 
 // The row of process i for its state x.
+#[tactic(auto, unfolding(crate::specs::Drawing::row_text))]
 fn put_row(
     text: &mut [u8],
     at: usize,
@@ -242,7 +230,7 @@ fn put_row(
     put_moves(text, after_state, i, x, mask, &row[1..], bound)
 }
 
-// The rows of process i. The counter runs up to the bound, and is made a process state for each.
+// The rows of process i: each number below the bound is made a process state.
 fn put_rows(text: &mut [u8], start: usize, a: Architecture, i: usize, tables: &[u8]) -> usize
     requires proper { IsProper a }
     requires i_lt_processes { i < a.processes }
@@ -253,8 +241,7 @@ fn put_rows(text: &mut [u8], start: usize, a: Architecture, i: usize, tables: &[
     let mask = a.inputs_of(i);
     let bound = a.bound_of(i) as u8;
     let mut at = start;
-    let mut x: u8 = 0;
-    while x < bound {
+    for x in 0..bound {
         let state = ProcessState(x);
         at = put_row(
             text,
@@ -265,7 +252,6 @@ fn put_rows(text: &mut [u8], start: usize, a: Architecture, i: usize, tables: &[
             bound,
             text::row_of(a, i, state, tables),
         );
-        x += 1;
     }
     at
 }
@@ -297,6 +283,7 @@ fn put_table_front(text: &mut [u8], at: usize, a: Architecture, i: usize) -> usi
 }
 
 // Its cluster.
+#[tactic(auto, unfolding(crate::specs::Drawing::table_text))]
 fn put_table(text: &mut [u8], at: usize, a: Architecture, i: usize, tables: &[u8]) -> usize
     requires proper { IsProper a }
     requires i_lt_processes { i < a.processes }
@@ -306,7 +293,7 @@ fn put_table(text: &mut [u8], at: usize, a: Architecture, i: usize, tables: &[u8
 {
     let after_front = put_table_front(text, at, a, i);
     let after_rows = put_rows(text, after_front, a, i, tables);
-    put_bytes(text, after_rows, b"    }\n")
+    put_all(text, after_rows, b"    }\n")
 }
 
 // The clusters of all processes.
@@ -316,12 +303,9 @@ fn put_tables(text: &mut [u8], start: usize, a: Architecture, tables: &[u8]) -> 
     requires tables_in_bounds { start + length (spec.tables_text (processes_in a) tables.now) ≤ length text.old }
     ensures { Appends text.old start (spec.tables_text (processes_in a) tables.now) result text.new }
 {
-    let n = a.processes;
     let mut at = start;
-    let mut i: usize = 0;
-    while i < n {
+    for i in 0..a.processes {
         at = put_table(text, at, a, i, tables);
-        i += 1;
     }
     at
 }
@@ -364,7 +348,7 @@ pub fn sheet_text(text: &mut [u8], sheet: Sheet) -> usize
     ensures { Holds text.new result (spec.sheet_text (sheet_of sheet)) }
 {
     let after_start = put_start(text, sheet);
-    put_bytes(text, after_start, b"}\n")
+    put_all(text, after_start, b"}\n")
 }
 
 // A proper sheet and its tables.
@@ -377,5 +361,5 @@ pub fn book_text(text: &mut [u8], sheet: Sheet, tables: &[u8]) -> usize
     let a = sheet.architecture;
     let after_start = put_start(text, sheet);
     let after_tables = put_tables(text, after_start, a, tables);
-    put_bytes(text, after_tables, b"}\n")
+    put_all(text, after_tables, b"}\n")
 }

@@ -5,13 +5,12 @@ use Prim.Native.Nat.{ℕ, zero, suc}
 use native.Mathlib.Omega.{arith}
 use lib.ListN.{length, get_or, take}
 use Rattle.model.specs.declared.Refusal.{Refusal}
-use Rattle.model.specs.declared.Reply.{Reply}
 use Rattle.model.specs.declared.ProcessState.{ProcessState}
 use Rattle.model.specs.declared.Desk.{Desk}
-use Rattle.model.specs.declared.Shown.{Shown}
 use Rattle.model.specs.Desk.{numbers, process_states, fresh_of, step_of}
 use Rattle.model.proofs.DeskRefusals.{fresh_kept, step_kept}
 use Rattle.export.specs.After.{desk_of, bytes_of}
+use Rattle.std.specs.Prelude.{Err}
 
 -- n elements, from number i on
 abbrev spell : {A : Type 0} → A → List A → (n i : ℕ) → List A
@@ -50,8 +49,8 @@ same_desk k e =
 
 -- a refusal leaves the five bytes
 module _ (sheet bytes : List ℕ) (five : length bytes ≡ 5) (r : Refusal) where
-  pub fresh_leaves : (fresh_of sheet (desk_of bytes)).answer ≡ Reply.Refused r → bytes_of (fresh_of sheet (desk_of bytes)).desk ≡ bytes
+  pub fresh_leaves : (fresh_of sheet (desk_of bytes)).answer ≡ Err r → bytes_of (fresh_of sheet (desk_of bytes)).desk ≡ bytes
   fresh_leaves e = ap bytes_of (fresh_kept sheet (desk_of bytes) r e) ∙ same_bytes bytes five
 
-  pub step_leaves : (book : List ℕ) (d : ℕ) → (step_of sheet book (desk_of bytes) d).answer ≡ Shown.Refused r → bytes_of (step_of sheet book (desk_of bytes) d).desk ≡ bytes
+  pub step_leaves : (book : List ℕ) (d : ℕ) → (step_of sheet book (desk_of bytes) d).answer ≡ Err r → bytes_of (step_of sheet book (desk_of bytes) d).desk ≡ bytes
   step_leaves book d e = ap bytes_of (step_kept sheet book (desk_of bytes) d r e) ∙ same_bytes bytes five

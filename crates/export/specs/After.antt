@@ -1,36 +1,36 @@
 -- What a C caller gets of reading, of asking for a part, of annotating and of a desk. These are definitions.
-use Rattle.std.specs.Prelude.{◌≡◌, List, [], ◌∷◌, ◌++◌, ℕ, ◌+◌, ◌*◌, get_or, take}
+use Rattle.std.specs.Prelude.{◌≡◌, List, [], ◌∷◌, ◌++◌, ℕ, ◌+◌, ◌*◌, get_or, take, Result, Ok, Err, ⊤}
 use Rattle.model.specs.declared.Desk.{Desk}
 use Rattle.model.specs.declared.Finding.TheVariants.{Yes, No}
-use Rattle.model.specs.declared.Verdict.{Verdict}
-use Rattle.model.specs.declared.Reply.{Reply}
 use Rattle.model.specs.Numbers.{number}
 use Rattle.model.specs.Desk.{numbers, process_states}
 use Rattle.model.specs.Calls.{AfterRead, AfterPart, annotate_of, AnnotatePath}
+use Rattle.model.specs.declared.Refusal.{Refusal}
+use Rattle.model.specs.declared.Finding.{Finding}
 
 -- the new tables where reading was not refused
-unfoldable pub tables_by : Reply → List ℕ → List ℕ → List ℕ
-tables_by Reply.Done new old = new
-tables_by (Reply.Refused r) new old = old
+unfoldable pub tables_by : Result ⊤ Refusal → List ℕ → List ℕ → List ℕ
+tables_by (Ok done) new old = new
+tables_by (Err r) new old = old
 
 -- the tables that were read; where reading is refused, what was there before
 abbrev pub tables_after : AfterRead → List ℕ → List ℕ
 tables_after a old = tables_by a.answer a.tables old
 
 -- the number of a part, by the answer
-unfoldable pub part_by : Reply → ℕ → ℕ → ℕ
-part_by Reply.Done start end = end * 65536 + start
-part_by (Reply.Refused r) start end = number r
+unfoldable pub part_by : Result ⊤ Refusal → ℕ → ℕ → ℕ
+part_by (Ok done) start end = end * 65536 + start
+part_by (Err r) start end = number r
 
 -- the end times 65,536 plus the start, or the refusal's number
 abbrev pub part_code : AfterPart → ℕ
 part_code a = part_by a.answer a.start a.end
 
 -- the two lengths are written on `loop` only
-unfoldable pub lengths_by : Verdict → (stem cycle : ℕ) → List ℕ → List ℕ
-lengths_by (Verdict.Refused r) stem cycle old = old
-lengths_by (Verdict.Found Yes) stem cycle old = old
-lengths_by (Verdict.Found No) stem cycle old = stem ∷ cycle ∷ []
+unfoldable pub lengths_by : Result Finding Refusal → (stem cycle : ℕ) → List ℕ → List ℕ
+lengths_by (Err r) stem cycle old = old
+lengths_by (Ok Yes) stem cycle old = old
+lengths_by (Ok No) stem cycle old = stem ∷ cycle ∷ []
 
 -- what annotate leaves of the path, and its two lengths
 pub record RunAfter (sheet book ann path lengths path' lengths' : List ℕ) : Type 0 where

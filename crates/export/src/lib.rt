@@ -3,65 +3,20 @@
 #![tactic(auto)]
 
 ghost use Rattle.std.specs.Prelude.{◌≡◌};
-ghost use Rattle.model.specs.Numbers.{reply_code, finding_code, verdict_code, outcome_code, shown_code, written_code};
+ghost use Rattle.model.specs.Numbers.{reply_code, verdict_code, outcome_code, shown_code, written_code};
 ghost use Rattle.model.specs.Calls.{check_of, find_of, write_of, read_of, part_of, judge_of, annotate_of, join_of};
 ghost use Rattle.model.specs.Desk.{fresh_of, step_of};
 ghost use Rattle.export.specs.After.{tables_after, part_code, RunAfter, desk_of, bytes_of};
 
-use model::{Desk, Finding, Outcome, ProcessState, Reply, Shown, Verdict, Written};
+use judging::Annotated;
+use model::{Desk, Finding, Found, ProcessState, Refusal};
 
-fn reply_code(reply: Reply) -> u32
+fn reply_code(reply: Result<(), Refusal>) -> u32
     ensures { result ≡ reply_code reply }
 {
     match reply {
-        Reply::Refused(refusal) => refusal.number(),
-        Reply::Done => 0,
-    }
-}
-
-fn finding_code(finding: Finding) -> u32
-    ensures { result ≡ finding_code finding }
-{
-    match finding {
-        Finding::Yes => 0,
-        Finding::No => 256,
-    }
-}
-
-fn verdict_code(verdict: Verdict) -> u32
-    ensures { result ≡ verdict_code verdict }
-{
-    match verdict {
-        Verdict::Refused(refusal) => refusal.number(),
-        Verdict::Found(finding) => finding_code(finding),
-    }
-}
-
-fn outcome_code(outcome: Outcome) -> u32
-    ensures { result ≡ outcome_code outcome }
-{
-    match outcome {
-        Outcome::Refused(refusal) => refusal.number(),
-        Outcome::Tables => 0,
-        Outcome::Nothing => 256,
-    }
-}
-
-fn shown_code(shown: Shown) -> u32
-    ensures { result ≡ shown_code shown }
-{
-    match shown {
-        Shown::Refused(refusal) => refusal.number(),
-        Shown::Label(label) => 65536 + label as u32,
-    }
-}
-
-fn written_code(written: Written) -> u32
-    ensures { result ≡ written_code written }
-{
-    match written {
-        Written::Refused(refusal) => refusal.number(),
-        Written::Length(length) => 65536 + length as u32,
+        Ok(()) => 0,
+        Err(refusal) => refusal.number(),
     }
 }
 
@@ -107,7 +62,11 @@ pub extern "C" fn soclethyme_find(sheet: &[u8], book: &mut [u8], annotation: &mu
     ensures book_after { book.new ≡ (find_of sheet.now book.old annotation.old).book }
     ensures annotation_after { annotation.new ≡ (find_of sheet.now book.old annotation.old).annotation }
 {
-    outcome_code(planner::find(sheet, book, annotation))
+    match planner::find(sheet, book, annotation) {
+        Ok(Found::Tables) => 0,
+        Ok(Found::Nothing) => 256,
+        Err(refusal) => refusal.number(),
+    }
 }
 
 #[unsafe(no_mangle)]
@@ -124,15 +83,12 @@ pub extern "C" fn soclethyme_read(sheet: &[u8], book: &[u8], tables: &mut [u8; 2
     ensures value { result ≡ reply_code (read_of sheet.now book.now).answer }
     ensures tables_after { tables.new ≡ tables_after (read_of sheet.now book.now) tables.old }
 {
-    let read = planner::read(sheet, book);
-    let answer = read.answer;
-    match answer {
-        Reply::Refused(refusal) => refusal.number(),
-        Reply::Done => {
-            let new = read.tables;
+    match planner::read(sheet, book) {
+        Ok(new) => {
             *tables = new;
             0
         }
+        Err(refusal) => refusal.number(),
     }
 }
 
@@ -140,11 +96,9 @@ pub extern "C" fn soclethyme_read(sheet: &[u8], book: &[u8], tables: &mut [u8; 2
 pub extern "C" fn soclethyme_part(sheet: &[u8], book: &[u8], process: usize) -> u32
     ensures { result ≡ part_code (part_of sheet.now book.now process) }
 {
-    let range = planner::range(sheet, book, process);
-    let answer = range.answer;
-    match answer {
-        Reply::Refused(refusal) => refusal.number(),
-        Reply::Done => range.end as u32 * 65536 + range.start as u32,
+    match planner::range(sheet, book, process) {
+        Ok(part) => part.end as u32 * 65536 + part.start as u32,
+        Err(refusal) => refusal.number(),
     }
 }
 
@@ -152,7 +106,11 @@ pub extern "C" fn soclethyme_part(sheet: &[u8], book: &[u8], process: usize) -> 
 pub extern "C" fn soclethyme_judge(sheet: &[u8], book: &[u8], annotation: &[u16]) -> u32
     ensures { result ≡ verdict_code (judge_of sheet.now book.now annotation.now) }
 {
-    verdict_code(planner::judge(sheet, book, annotation))
+    match planner::judge(sheet, book, annotation) {
+        Ok(Finding::Yes) => 0,
+        Ok(Finding::No) => 256,
+        Err(refusal) => refusal.number(),
+    }
 }
 
 // The two lengths are written on `loop` only.
@@ -168,17 +126,13 @@ pub extern "C" fn soclethyme_annotate(
     ensures annotation_after { annotation.new ≡ (annotate_of sheet.now book.now annotation.old path.old).annotation }
     ensures run_after { RunAfter sheet.now book.now annotation.old path.old lengths.old path.new lengths.new }
 {
-    let annotated = planner::annotate(sheet, book, annotation, path);
-    let verdict = annotated.verdict;
-    match verdict {
-        Verdict::Refused(refusal) => refusal.number(),
-        Verdict::Found(finding) => match finding {
-            Finding::Yes => 0,
-            Finding::No => {
-                *lengths = [annotated.stem as u32, annotated.cycle as u32];
-                256
-            }
-        },
+    match planner::annotate(sheet, book, annotation, path) {
+        Ok(Annotated::Keeps) => 0,
+        Ok(Annotated::Loop(run)) => {
+            *lengths = [run.stem as u32, run.cycle as u32];
+            256
+        }
+        Err(refusal) => refusal.number(),
     }
 }
 
@@ -187,10 +141,13 @@ pub extern "C" fn soclethyme_fresh(sheet: &[u8], desk: &mut [u8; 5]) -> u32
     ensures value { result ≡ reply_code (fresh_of sheet.now (desk_of desk.old)).answer }
     ensures desk_after { desk.new ≡ bytes_of (fresh_of sheet.now (desk_of desk.old)).desk }
 {
-    let fresh = planner::fresh(sheet, desk_of(*desk));
-    *desk = bytes_of(fresh.desk);
-    let answer = fresh.answer;
-    reply_code(answer)
+    match planner::fresh(sheet, desk_of(*desk)) {
+        Ok(fresh) => {
+            *desk = bytes_of(fresh);
+            0
+        }
+        Err(refusal) => refusal.number(),
+    }
 }
 
 #[unsafe(no_mangle)]
@@ -203,10 +160,13 @@ pub extern "C" fn soclethyme_step(
     ensures value { result ≡ shown_code (step_of sheet.now book.now (desk_of desk.old) direction).answer }
     ensures desk_after { desk.new ≡ bytes_of (step_of sheet.now book.now (desk_of desk.old) direction).desk }
 {
-    let next = planner::step_by_value(sheet, book, desk_of(*desk), direction);
-    *desk = bytes_of(next.desk);
-    let answer = next.answer;
-    shown_code(answer)
+    match planner::step_by_value(sheet, book, desk_of(*desk), direction) {
+        Ok(next) => {
+            *desk = bytes_of(next.desk);
+            65536 + next.label as u32
+        }
+        Err(refusal) => refusal.number(),
+    }
 }
 
 #[unsafe(no_mangle)]
@@ -214,5 +174,8 @@ pub extern "C" fn soclethyme_join(first: &[u8], second: &[u8], sheet: &mut [u8])
     ensures value { result ≡ written_code (join_of first.now second.now sheet.old).answer }
     ensures sheet_after { sheet.new ≡ (join_of first.now second.now sheet.old).sheet }
 {
-    written_code(planner::join(first, second, sheet))
+    match planner::join(first, second, sheet) {
+        Ok(length) => 65536 + length as u32,
+        Err(refusal) => refusal.number(),
+    }
 }

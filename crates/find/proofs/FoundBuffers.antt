@@ -9,7 +9,6 @@ use lib.Seq.{take_at}
 use borrow.Author.Tests.{le-ltb}
 use Rattle.model.specs.declared.Refusal.{Refusal}
 use Rattle.model.specs.declared.Refusal.TheVariants.{BufferTooShort, AnnotationBufferTooShort}
-use Rattle.model.specs.declared.Outcome.{Outcome}
 use Rattle.model.specs.Reading as model
 use Rattle.model.specs.Sheet.{Architecture, Sheet, ProperSheet}
 use Rattle.model.specs.Reading.{refused, proper, read_sheet, refuse◌when◌else◌, ◌then◌}
@@ -25,17 +24,19 @@ use Rattle.model.proofs.BookInverse.{filled_length}
 use Rattle.model.proofs.BookRead.{choice_read}
 use Rattle.model.proofs.FirstUnique.{found_some}
 use Rattle.model.proofs.AnnotationExact.{annotation_whole}
-use Rattle.sheet.specs.declared.Reading.{Reading}
-use Rattle.sheet.specs.Struct.{sheet_of, reading_of}
-use Rattle.book.specs.declared.TablesRead.{TablesRead}
+use Rattle.sheet.specs.declared.Sheet as sheets
+use Rattle.sheet.specs.Struct.{sheet_of, Arrays, IsProper, reading_of}
+use Rattle.sheet.proofs.AnswersOfReading.{read_proper, read_is_proper}
 use Rattle.book.specs.Answers.{after_read}
 use Rattle.composition.proofs.ChoiceAtFront.{chosen_tables}
 use Rattle.model.proofs.RunGraphSteps.{vertices_few}
-use Rattle.sizes.proofs.SheetRead.{reading_is}
+use Rattle.sizes.proofs.SheetRead.{reading_is, read_ok}
 use Rattle.text.specs.Text.{text_of, none_text, refused_text}
 use Rattle.text.proofs.TextReads.{text_front}
 use Rattle.words.specs.Words.{bytes_of}
-use Rattle.find.specs.Printed.{choice_text, sheet_text, printed, book_file, annotation_file, left, found}
+use Rattle.find.specs.Printed.{choice_text, sheet_text, printed, book_file, annotation_file, found}
+use Rattle.std.specs.Prelude.{Result, Ok, Err, IsOk, IfOk, is_ok}
+use Rattle.model.specs.declared.Found.TheVariants.{Nothing}
 
 -- the choice whose book and annotation the buffers have at the front
 pub record Chose (s : Sheet) (book ann : List ℕ) : Type 0 where
@@ -53,15 +54,12 @@ front_is : (new old : List ℕ) (n : ℕ) → length new ≡ n → take n (front
 unfolding front
 front_is new old n e = take_at new (drop (length new) old) n e
 
-nothing≢tables : ¬ (Outcome.Nothing ≡ Outcome.Tables)
-nothing≢tables e = let z : ◌≡◌ {A = ℕ} 0 1 = cc in omega arith
-
 pub chose : (s : Sheet) (old-book old-ann book ann : List ℕ) → ProperSheet s → find_choice s (first_choice s) old-book old-ann ≡ found book ann → Chose s book ann
 unfolding find_choice
 chose s old-book old-ann book ann g f = by (first_choice s) refl f
   where
     by : (o : Option (List ℕ)) → first_choice s ≡ o → find_choice s o old-book old-ann ≡ found book ann → Chose s book ann
-    by none e f = absurd (nothing≢tables (ap (λ (a : AfterFind). a.answer) f))
+    by none e f = let z = ap (λ (a : AfterFind). a.answer) f in cc
     by (some c) e f = record {
       choice = c;
       first = e;
@@ -83,54 +81,38 @@ module _ (b old-book old-ann : List ℕ) (book-room : 338 ≤ length old-book) (
         le-ltb (length old-ann) (vertices s) (omega (arith, vertices_few s g)),
       )
 
-  find_refused : (q : Refusal) → read_sheet b ≡ refused q → (find_of b old-book old-ann).answer ≡ Outcome.Refused q
+  find_refused : (q : Refusal) → read_sheet b ≡ refused q → (find_of b old-book old-ann).answer ≡ Err q
   unfolding find_of find_in find_sheet ◌then◌
   find_refused q e = rw e
 
-  pub says_refused : (r : Refusal) → (find_of b old-book old-ann).answer ≡ Outcome.Refused r → printed b ≡ refused_text (number r)
+  pub says_refused : (r : Refusal) → (find_of b old-book old-ann).answer ≡ Err r → printed b ≡ refused_text (number r)
   unfolding printed sheet_text find_choice
   says_refused r f = by (read_sheet b) refl
     where
-      never : (s : Sheet) (o : Option (List ℕ)) → ¬ ((find_choice s o old-book old-ann).answer ≡ Outcome.Refused r)
-      never s none e = let z : ◌≡◌ {A = ℕ} 0 1 = cc in omega arith
-      never s (some c) e = let z : ◌≡◌ {A = ℕ} 0 1 = cc in omega arith
+      never : (s : Sheet) (o : Option (List ℕ)) → ¬ ((find_choice s o old-book old-ann).answer ≡ Err r)
+      never s none e = cc
+      never s (some c) e = cc
 
       by : (k : model.Reading Sheet) → read_sheet b ≡ k → sheet_text k ≡ refused_text (number r)
       by (refused q) e =
-          let same : Outcome.Refused q ≡ Outcome.Refused r = sym (find_refused q e) ∙ f in
+          let same = sym (find_refused q e) ∙ f in
           let reason : q ≡ r = cc in
           ap (λ (x : Refusal). refused_text (number x)) reason
       by (proper s) e = absurd (never s (first_choice s) (sym (ap (λ (a : AfterFind). a.answer) (find_proper s e)) ∙ f))
 
-  pub says_nothing : (find_of b old-book old-ann).answer ≡ Outcome.Nothing → printed b ≡ none_text
+  pub says_nothing : (find_of b old-book old-ann).answer ≡ Ok Nothing → printed b ≡ none_text
   unfolding printed sheet_text choice_text find_choice
   says_nothing f = by (read_sheet b) refl
     where
-      chosen : (s : Sheet) (o : Option (List ℕ)) → (find_choice s o old-book old-ann).answer ≡ Outcome.Nothing → choice_text s o ≡ none_text
+      chosen : (s : Sheet) (o : Option (List ℕ)) → (find_choice s o old-book old-ann).answer ≡ Ok Nothing → choice_text s o ≡ none_text
       chosen s none e = refl
-      chosen s (some c) e = let z : ◌≡◌ {A = ℕ} 0 1 = cc in absurd (omega arith)
+      chosen s (some c) e = cc
 
       by : (k : model.Reading Sheet) → read_sheet b ≡ k → sheet_text k ≡ none_text
-      by (refused q) e = let z : Outcome.Refused q ≡ Outcome.Nothing = sym (find_refused q e) ∙ f in let y : ◌≡◌ {A = ℕ} 0 1 = cc in absurd (omega arith)
+      by (refused q) e = let z = sym (find_refused q e) ∙ f in cc
       by (proper s) e = chosen s (first_choice s) (sym (ap (λ (a : AfterFind). a.answer) (find_proper s e)) ∙ f)
 
--- find left this, as its three promises say
-pub left_so : (x : AfterFind) (o : Outcome) (book ann : List ℕ) → o ≡ x.answer → book ≡ x.book → ann ≡ x.annotation → x ≡ left o book ann
-left_so x o book ann e eb ea = rw (e, eb, ea)
-
--- it left tables
-pub left_tables : (x : AfterFind) (o : Outcome) (book ann : List ℕ) → o ≡ x.answer → book ≡ x.book → ann ≡ x.annotation → o ≡ Outcome.Tables → x ≡ found book ann
-left_tables x o book ann e eb ea t = left_so x o book ann e eb ea ∙ ap (λ (y : Outcome). left y book ann) t
-
--- ---- the sheet that was read
-refused≢tables : (r : Refusal) → ¬ (Outcome.Refused r ≡ Outcome.Tables)
-refused≢tables r e = let z : ◌≡◌ {A = ℕ} 0 1 = cc in omega arith
-
--- the sheet, and what find made of it
-pub record Proper (b : List ℕ) (s : Sheet) (old-book old-ann book ann : List ℕ) : Type 0 where
-  pub is : read_sheet b ≡ proper s
-  pub finds : find_choice s (first_choice s) old-book old-ann ≡ found book ann
-
+-- ---- the sheet that is read again
 not_refused : (b old-book old-ann : List ℕ) (s : Sheet) → find_sheet b old-book old-ann ≡ proper s → read_sheet b ≡ proper s
 unfolding find_sheet room_to_find
 not_refused b old-book old-ann s e =
@@ -139,18 +121,38 @@ not_refused b old-book old-ann s e =
     let h₃ = passes AnnotationBufferTooShort (annotation_short h₁.0 old-ann) _ h₂.1 in
     h₁.1 ∙ h₃.1
 
-pub found_proper : (b old-book old-ann book ann : List ℕ) (r : Reading) → reading_of r ≡ read_sheet b → find_of b old-book old-ann ≡ found book ann
-    → Proper b (sheet_of r.sheet) old-book old-ann book ann
-unfolding find_of find_in
-found_proper b old-book old-ann book ann r e f = by (find_sheet b old-book old-ann) refl f
-  where
-    by : (k : model.Reading Sheet) → find_sheet b old-book old-ann ≡ k → find_in k old-book old-ann ≡ found book ann → Proper b (sheet_of r.sheet) old-book old-ann book ann
-    by (refused q) h f = absurd (refused≢tables q (ap (λ (a : AfterFind). a.answer) f))
-    by (proper s) h f =
-        let read = not_refused b old-book old-ann s h in
-        rw (reading_is r.answer r.sheet s (e ∙ read)) record { is = read; finds = f }
+-- the sheet that find read, and what it made of it
+pub record Reread (b old-book old-ann book ann : List ℕ) (x : sheets.Sheet) : Type 0 where
+  pub is_proper : IsProper x
+  pub is : read_sheet b ≡ proper (sheet_of x)
+  pub finds : find_choice (sheet_of x) (first_choice (sheet_of x)) old-book old-ann ≡ found book ann
 
-module _ (s : Sheet) (book ann : List ℕ) (h : Chose s book ann) where
+module _ (b old-book old-ann book ann : List ℕ) (f : find_of b old-book old-ann ≡ found book ann) where
+  was_proper : (s : Sheet) × (read_sheet b ≡ proper s) × (find_choice s (first_choice s) old-book old-ann ≡ found book ann)
+  unfolding find_of find_in
+  was_proper = by (find_sheet b old-book old-ann) refl f
+    where
+      by : (k : model.Reading Sheet) → find_sheet b old-book old-ann ≡ k → find_in k old-book old-ann ≡ found book ann
+          → (s : Sheet) × (read_sheet b ≡ proper s) × (find_choice s (first_choice s) old-book old-ann ≡ found book ann)
+      by (refused q) h f = let z = ap (λ (a : AfterFind). a.answer) f in cc
+      by (proper s) h f = (s, not_refused b old-book old-ann s h, f)
+
+  -- it is not refused
+  pub reread_ok : (r : Result sheets.Sheet Refusal) → reading_of r ≡ read_sheet b → IsOk r
+  reread_ok r e = ap is_ok (read_ok r was_proper.0 (e ∙ was_proper.1)).1
+
+  pub reread : (r : Result sheets.Sheet Refusal) (x : sheets.Sheet) → reading_of r ≡ read_sheet b → IfOk r (λ (y : sheets.Sheet). Arrays y) → r ≡ Ok x → Reread b old-book old-ann book ann x
+  reread r x e arrays o =
+      let read : reading_of (Ok x) ≡ read_sheet b = subst (λ (q : Result sheets.Sheet Refusal). reading_of q ≡ read_sheet b) o e in
+      let same : sheet_of x ≡ was_proper.0 = reading_is x was_proper.0 (read ∙ was_proper.1) in
+      record {
+        is_proper = read_is_proper b x read (subst (λ (q : Result sheets.Sheet Refusal). IfOk q (λ (y : sheets.Sheet). Arrays y)) o arrays);
+        is = read_proper b x read;
+        finds = rw same was_proper.2;
+      }
+
+-- ---- the book and the annotation of that choice
+module _ {s : Sheet} {book ann : List ℕ} (h : Chose s book ann) where
   -- where the book ends
   pub book_whole : (n : ℕ) → n ≡ book_length s.architecture → n ≡ length (take n book)
   book_whole n e = rw e (sym (ap length h.book_is ∙ book_length_lem s.architecture h.choice))
@@ -169,18 +171,28 @@ module _ (s : Sheet) (book ann : List ℕ) (h : Chose s book ann) where
   annotation_file_lem n e = rw (h.first, e) (ap bytes_of h.annotation_is)
 
   -- the tables that are read back
-  module _ (n : ℕ) (e : n ≡ book_length s.architecture) (r : TablesRead) (q : after_read r ≡ gave (read_book s.architecture (take n book))) where
-    pub tables_are : r.tables ≡ tables_of h.choice
+  module _ (n : ℕ) (e : n ≡ book_length s.architecture) (r : Result (List ℕ) Refusal) (q : after_read r ≡ gave (read_book s.architecture (take n book))) where
+    read_back : r ≡ Ok (tables_of h.choice)
     unfolding gave
-    tables_are =
+    read_back =
         let same : take n book ≡ book_of s.architecture h.choice = ap (λ (k : ℕ). take k book) e ∙ h.book_is in
-        let read : read_book s.architecture (take n book) ≡ proper h.choice = choice_read s.architecture (take n book) h.choice h.is_choice (sym same) in
-        ap (λ (x : AfterRead). x.tables) (q ∙ ap gave read)
+        by r (q ∙ ap gave (choice_read s.architecture (take n book) h.choice h.is_choice (sym same)))
+      where
+        by : (r : Result (List ℕ) Refusal) → after_read r ≡ gave (proper h.choice) → r ≡ Ok (tables_of h.choice)
+        by (Ok t) e = ap (λ (y : AfterRead). Ok y.tables) e
+        by (Err q) e = let z = ap (λ (y : AfterRead). y.answer) e in cc
 
-    pub are_tables : IsTables s.architecture (take (length (entries s.architecture)) r.tables)
-    are_tables = rw tables_are (subst (IsTables s.architecture) (sym (chosen_tables s.architecture h.choice h.is_choice.tables)) h.is_choice.tables)
+    pub tables_ok : IsOk r
+    tables_ok = ap is_ok read_back
 
-    pub text_is : (v : ℕ) → v ≡ vertices s → text_of s.architecture r.tables (take v ann) ≡ choice_text s (first_choice s)
-    unfolding choice_text tables_of front
-    text_is v ev =
-        rw (tables_are, ev, h.annotation_is, h.first) (text_front h.choice (drop (length h.choice) (replicate 272 0)) s.architecture (annotation s h.choice) h.is_choice.tables)
+    module _ (t : List ℕ) (o : r ≡ Ok t) where
+      tables_are : t ≡ tables_of h.choice
+      tables_are = cc read_back
+
+      pub are_tables : IsTables s.architecture (take (length (entries s.architecture)) t)
+      are_tables = rw tables_are (subst (IsTables s.architecture) (sym (chosen_tables s.architecture h.choice h.is_choice.tables)) h.is_choice.tables)
+
+      pub text_is : (v : ℕ) → v ≡ vertices s → text_of s.architecture t (take v ann) ≡ choice_text s (first_choice s)
+      unfolding choice_text tables_of front
+      text_is v ev =
+          rw (tables_are, ev, h.annotation_is, h.first) (text_front h.choice (drop (length h.choice) (replicate 272 0)) s.architecture (annotation s h.choice) h.is_choice.tables)

@@ -1,7 +1,6 @@
 -- 01, "Bench cases": what the finding program prints for a sheet file, and the files that it writes.
-use Rattle.std.specs.Prelude.{List, [], ℕ, replicate}
+use Rattle.std.specs.Prelude.{List, [], ℕ, replicate, Result, Ok}
 use Rattle.std.proofs.Math.Option.{Option, none, some}
-use Rattle.model.specs.declared.Outcome.{Outcome}
 use Rattle.model.specs.Sheet.{Sheet}
 use Rattle.model.specs.Reading.{Reading, refused, proper, read_sheet}
 use Rattle.model.specs.Computed.{annotation, first_choice}
@@ -10,6 +9,9 @@ use Rattle.model.specs.Calls.{AfterFind}
 use Rattle.model.specs.Numbers.{number}
 use Rattle.words.specs.Words.{bytes_of}
 use Rattle.text.specs.Text.{text_of, none_text, refused_text}
+use Rattle.model.specs.declared.Refusal.{Refusal}
+use Rattle.model.specs.declared.Found.{Found}
+use Rattle.model.specs.declared.Found.TheVariants.{Tables}
 
 -- the first choice that keeps the sheet, with its annotation; or `none`
 unfoldable pub choice_text : Sheet → Option (List ℕ) → List ℕ
@@ -33,12 +35,12 @@ abbrev pub annotation₀ : List ℕ
 annotation₀ = replicate 4096 0
 
 -- what find answered, and how it left the buffers
-abbrev pub left : Outcome → List ℕ → List ℕ → AfterFind
+abbrev pub left : Result Found Refusal → List ℕ → List ℕ → AfterFind
 left outcome book ann = record { answer = outcome; book = book; annotation = ann }
 
 -- find left tables, and the buffers so
 abbrev pub found : List ℕ → List ℕ → AfterFind
-found book ann = left Outcome.Tables book ann
+found book ann = left (Ok Tables) book ann
 
 -- ---- the files that the program writes where there are tables
 unfoldable pub book_file : Sheet → Option (List ℕ) → List ℕ

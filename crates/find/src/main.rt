@@ -9,7 +9,7 @@ ghost use Rattle.sheet.specs.Struct.{sheet_of, IsProper};
 ghost use Rattle.template.specs.Holds.{Holds};
 ghost use Rattle.find.specs.Printed.{choice_text, printed, book_file, annotation_file, left, found, book₀, annotation₀};
 
-use model::Outcome;
+use model::{Found, Refusal};
 use sheet::Sheet;
 use std::env::Env;
 use std::rt::Files;
@@ -26,8 +26,7 @@ fn choice_text(text: &mut [u8], sheet: Sheet, book: &[u8], annotation: &[u16]) -
 {
     let a = sheet.architecture;
     let length = sizes::book_length(a);
-    let read = book::read_for(a, &book[..length]);
-    let tables = read.tables;
+    let tables = book::read_for(a, &book[..length]).unwrap();
     let vertices = sizes::vertices(sheet);
     text::tables_text(text, a, &tables, &annotation[..vertices])
 }
@@ -38,8 +37,7 @@ fn found_text(text: &mut [u8], sheet: &[u8], book: &[u8], annotation: &[u16]) ->
     requires fact { find_of sheet.now book₀ annotation₀ ≡ found book.now annotation.now }
     ensures { Holds text.new result (printed sheet.now) }
 {
-    let reading = sheet::read(sheet);
-    let read = reading.sheet;
+    let read = sheet::read(sheet).unwrap();
     choice_text(text, read, book, annotation)
 }
 
@@ -47,7 +45,7 @@ fn found_text(text: &mut [u8], sheet: &[u8], book: &[u8], annotation: &[u16]) ->
 fn outcome_text(
     text: &mut [u8],
     sheet: &[u8],
-    outcome: Outcome,
+    outcome: Result<Found, Refusal>,
     book: &[u8],
     annotation: &[u16],
 ) -> usize
@@ -56,9 +54,9 @@ fn outcome_text(
     ensures { Holds text.new result (printed sheet.now) }
 {
     match outcome {
-        Outcome::Refused(refusal) => text::refused_text(text, refusal),
-        Outcome::Nothing => text::answer_text(text, b"none\n"),
-        Outcome::Tables => found_text(text, sheet, book, annotation),
+        Ok(Found::Tables) => found_text(text, sheet, book, annotation),
+        Ok(Found::Nothing) => text::answer_text(text, b"none\n"),
+        Err(refusal) => text::refused_text(text, refusal),
     }
 }
 
@@ -105,8 +103,7 @@ fn save_found<R: Env + Files + Eprint>(rt: &R, sheet: &[u8], book: &[u8], annota
     if input::argument_count(rt) < 4 {
         return;
     }
-    let reading = sheet::read(sheet);
-    let read = reading.sheet;
+    let read = sheet::read(sheet).unwrap();
     save_choice(rt, read, book, annotation);
 }
 
@@ -119,9 +116,9 @@ fn answer<R: Env + Files + Print + Eprint>(rt: &R, sheet: &[u8]) {
     let end = outcome_text(&mut text, sheet, outcome, &book, &annotation);
     put_out(rt, sheet, &text[..end]);
     match outcome {
-        Outcome::Refused(refusal) => cause::explain(rt, refusal, sheet),
-        Outcome::Nothing => {}
-        Outcome::Tables => save_found(rt, sheet, &book, &annotation),
+        Ok(Found::Tables) => save_found(rt, sheet, &book, &annotation),
+        Ok(Found::Nothing) => {}
+        Err(refusal) => cause::explain(rt, refusal, sheet),
     }
 }
 

@@ -93,10 +93,7 @@ pub fn argument_count(rt: &impl Env) -> usize {
 }
 
 fn is_dash(path: &[u8]) -> bool {
-    if path.len() == 1 {
-        return path[0] == b'-';
-    }
-    false
+    path == b"-".as_slice()
 }
 
 // ---- files
@@ -142,6 +139,7 @@ pub fn read_full<S: Read>(source: &mut S, room: &mut [u8]) -> usize
     ensures bytes { Consumes (S.remaining source.old) (S.remaining source.new) (take result room.new) }
 {
     let mut done: usize = 0;
+    // A while: how far a turn goes is up to the source.
     while done < room.len() {
         match source.read(&mut room[done..]) {
             Ok(0) => return done,

@@ -8,7 +8,6 @@ use lib.Seq.{take_at}
 use borrow.Author.Tests.{le-ltb}
 use Rattle.model.specs.declared.Refusal.{Refusal}
 use Rattle.model.specs.declared.Refusal.TheVariants.{BufferTooShort}
-use Rattle.model.specs.declared.Written.{Written}
 use Rattle.model.specs.Reading.{Reading, refused, proper, ◌then◌}
 use Rattle.model.specs.SheetFile.{longest_sheet}
 use Rattle.model.specs.Join.{join_bytes}
@@ -17,6 +16,7 @@ use Rattle.model.proofs.Refusing.{go}
 use Rattle.model.proofs.Joining.{joined_short}
 use Rattle.text.specs.Text.{text_or_refused}
 use Rattle.join.specs.Printed.{printed}
+use Rattle.std.specs.Prelude.{Ok, Err}
 
 module _ (first second sheet : List ℕ) (room : longest_sheet ≤ length sheet) where
   -- nothing is refused for want of room
@@ -28,15 +28,15 @@ module _ (first second sheet : List ℕ) (room : longest_sheet ≤ length sheet)
       by (refused r) e = refl
       by (proper new) e = go BufferTooShort _ (le-ltb (length sheet) (length new) (omega (arith, joined_short first second new e)))
 
-  pub was_refused : (r : Refusal) → Written.Refused r ≡ (join_of first second sheet).answer → join_bytes first second ≡ refused r
+  pub was_refused : (r : Refusal) → Err r ≡ (join_of first second sheet).answer → join_bytes first second ≡ refused r
   unfolding wrote_sheet
   was_refused r e = by (join_bytes first second) (e ∙ ap (λ (x : AfterSheet). x.answer) roomy)
     where
-      by : (k : Reading (List ℕ)) → Written.Refused r ≡ (wrote_sheet k sheet).answer → k ≡ refused r
+      by : (k : Reading (List ℕ)) → Err r ≡ (wrote_sheet k sheet).answer → k ≡ refused r
       by (refused q) e = let z : q ≡ r = cc in ap refused z
       by (proper new) e = let z : ◌≡◌ {A = ℕ} 0 1 = cc in absurd (omega arith)
 
-  module _ (n : ℕ) (left : List ℕ) (answer : Written.Length n ≡ (join_of first second sheet).answer) (is : left ≡ (join_of first second sheet).sheet) where
+  module _ (n : ℕ) (left : List ℕ) (answer : Ok n ≡ (join_of first second sheet).answer) (is : left ≡ (join_of first second sheet).sheet) where
     -- the sheet that was written
     record Wrote : Type 0 where
       new : List ℕ
@@ -48,7 +48,7 @@ module _ (first second sheet : List ℕ) (room : longest_sheet ≤ length sheet)
     unfolding wrote_sheet
     wrote = by (join_bytes first second) refl (answer ∙ ap (λ (x : AfterSheet). x.answer) roomy) (is ∙ ap (λ (x : AfterSheet). x.sheet) roomy)
       where
-        by : (k : Reading (List ℕ)) → join_bytes first second ≡ k → Written.Length n ≡ (wrote_sheet k sheet).answer → left ≡ (wrote_sheet k sheet).sheet → Wrote
+        by : (k : Reading (List ℕ)) → join_bytes first second ≡ k → Ok n ≡ (wrote_sheet k sheet).answer → left ≡ (wrote_sheet k sheet).sheet → Wrote
         by (refused q) j e h = let z : ◌≡◌ {A = ℕ} 0 1 = cc in absurd (omega arith)
         by (proper new) j e h = let z : n ≡ length new = cc in record { new = new; joined = j; long = z; held = h }
 

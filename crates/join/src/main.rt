@@ -6,7 +6,7 @@ ghost use Rattle.model.specs.Reading.{refused};
 ghost use Rattle.model.specs.Join.{join_bytes};
 ghost use Rattle.join.specs.Printed.{printed};
 
-use model::{Refusal, Written};
+use model::Refusal;
 use std::env::Env;
 
 // One byte more than the longest proper sheet, so that a byte after EN is seen.
@@ -32,13 +32,9 @@ fn refuse<R: Env + Print + Eprint>(rt: &R, first: &[u8], second: &[u8], refusal:
 // The answer for the bytes of two sheet files. The buffer has room for every sheet.
 fn answer<R: Env + Print + Eprint>(rt: &R, first: &[u8], second: &[u8]) {
     let mut sheet = [0u8; 433];
-    let written = planner::join(first, second, &mut sheet);
-    match written {
-        Written::Refused(refusal) => refuse(rt, first, second, refusal),
-        Written::Length(length) => {
-            let end = length as usize;
-            put_out(rt, first, second, &sheet[..end]);
-        }
+    match planner::join(first, second, &mut sheet) {
+        Ok(length) => put_out(rt, first, second, &sheet[..length as usize]),
+        Err(refusal) => refuse(rt, first, second, refusal),
     }
 }
 

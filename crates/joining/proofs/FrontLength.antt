@@ -5,7 +5,7 @@ use mathlib.Core.List.{List, [], ◌∷◌, ◌++◌, append_assoc}
 use Prim.Native.Nat.{ℕ, ◌+◌, ◌*◌, ◌≤◌}
 use native.Mathlib.Numerals.{add-one}
 use native.Mathlib.Omega.{arith}
-use lib.ListN.{length, get_or, take, length-append}
+use lib.ListN.{length, take, length-append}
 use lib.Seq.{take_at}
 use Rattle.model.specs.Mask.{if}
 use Rattle.model.specs.Sheet as model
@@ -19,7 +19,7 @@ use Rattle.architecture.specs.Struct.{process_in, processes_of, first_in, archit
 use Rattle.architecture.proofs.ProcessesOfArrays.{ties_count}
 
 -- one process more
-pub process_turn : (a : Architecture) (i n : ℕ) → n ≡ if (get_or a.prompted i false) 6 5
+pub process_turn : (a : Architecture) (i n : ℕ) → n ≡ if (process_in a i).prompted 6 5
     → length (processes_bytes (first_in a (i + 1))) ≡ length (processes_bytes (first_in a i)) + n
 unfolding processes_of
 process_turn a i n e =

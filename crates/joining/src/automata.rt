@@ -12,6 +12,7 @@ use model::AutomatonState;
 
 // ---- edges whose states stand so many further on
 // The edge itself.
+#[tactic(auto, unfolding(model::specs::Join::moved))]
 fn moved(edge: Edge, by: u8) -> Edge
     requires { (by + edge.from.0 < 256) × (by + edge.to.0 < 256) }
     ensures { edge_of result ≡ join.moved by (edge_of edge) }
@@ -19,13 +20,12 @@ fn moved(edge: Edge, by: u8) -> Edge
     Edge {
         from: AutomatonState(by + edge.from.0),
         to: AutomatonState(by + edge.to.0),
-        on: edge.on,
-        off: edge.off,
-        unless: edge.unless,
+        ..edge
     }
 }
 
 // Its copy at the new start.
+#[tactic(auto, unfolding(model::specs::Join::copied))]
 fn copied(edge: Edge, by: u8) -> Edge
     requires { by + edge.to.0 < 256 }
     ensures { edge_of result ≡ join.copied by (edge_of edge) }
@@ -33,9 +33,7 @@ fn copied(edge: Edge, by: u8) -> Edge
     Edge {
         from: AutomatonState(0),
         to: AutomatonState(by + edge.to.0),
-        on: edge.on,
-        off: edge.off,
-        unless: edge.unless,
+        ..edge
     }
 }
 
@@ -45,7 +43,7 @@ fn with_copy(into: Automaton, edge: Edge, q: AutomatonState, by: u8) -> Automato
     requires edge_bound { into.edges + length (join.copies by q.0 (edge_of edge ∷ [])) ≤ 64 }
     requires to_bound { by + edge.to.0 < 256 }
     ensures result_value { automaton_of result ≡ with_edges (automaton_of into) (join.copies by q.0 (edge_of edge ∷ [])) }
-    ensures arrays_2 { Arrays result }
+    ensures arrays_after { Arrays result }
 {
     if edge.from.0 != q.0 {
         return into;
@@ -59,15 +57,12 @@ fn with_copies(into: Automaton, u: Automaton, by: u8) -> Automaton
     requires arrays { Arrays into × Proper u × (by ≤ 16) }
     requires edges_bound { into.edges + length (join.copies by u.initial.0 (first_in u u.edges)) ≤ 64 }
     ensures result_value { automaton_of result ≡ with_edges (automaton_of into) (join.copies by u.initial.0 (first_in u u.edges)) }
-    ensures arrays_2 { Arrays result }
+    ensures arrays_after { Arrays result }
 {
-    let n = u.edges;
     let q = u.initial;
     let mut joined = into;
-    let mut i: usize = 0;
-    while i < n {
-        joined = with_copy(joined, u.edge(i), q, by);
-        i += 1;
+    for edge in &u.edge_list[..u.edges] {
+        joined = with_copy(joined, *edge, q, by);
     }
     joined
 }
@@ -77,14 +72,11 @@ fn with_edges(into: Automaton, u: Automaton, by: u8) -> Automaton
     requires arrays { Arrays into × Proper u × (by ≤ 16) }
     requires edges_bound { into.edges + u.edges ≤ 64 }
     ensures result_value { automaton_of result ≡ with_edges (automaton_of into) (map (join.moved by) (first_in u u.edges)) }
-    ensures arrays_2 { Arrays result }
+    ensures arrays_after { Arrays result }
 {
-    let n = u.edges;
     let mut joined = into;
-    let mut i: usize = 0;
-    while i < n {
-        joined = joined.with_edge(moved(u.edge(i), by));
-        i += 1;
+    for edge in &u.edge_list[..u.edges] {
+        joined = joined.with_edge(moved(*edge, by));
     }
     joined
 }
@@ -106,13 +98,10 @@ fn leaving(u: Automaton) -> usize
     ensures value { result ≡ length (join.leaving u.initial.0 (first_in u u.edges)) }
     ensures upper_bound { result ≤ 64 }
 {
-    let n = u.edges;
     let q = u.initial;
     let mut count: usize = 0;
-    let mut i: usize = 0;
-    while i < n {
-        count += count_one(u.edge(i), q);
-        i += 1;
+    for edge in &u.edge_list[..u.edges] {
+        count += count_one(*edge, q);
     }
     count
 }

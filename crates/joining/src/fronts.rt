@@ -14,10 +14,7 @@ use sheet::Sheet;
 fn process_length(prompted: bool) -> usize
     ensures { result ≡ if prompted 6 5 }
 {
-    if prompted {
-        return 6;
-    }
-    5
+    if prompted { 6 } else { 5 }
 }
 
 // How many bytes they have.
@@ -26,12 +23,9 @@ pub fn front_length(a: Architecture) -> usize
     ensures value { result ≡ length (front_bytes (architecture_of a)) }
     ensures upper_bound { result ≤ 41 }
 {
-    let n = a.processes;
     let mut bytes = 5 + 4 * a.ties;
-    let mut i: usize = 0;
-    while i < n {
-        bytes += process_length(a.prompted_of(i));
-        i += 1;
+    for process in &a.process_list[..a.processes] {
+        bytes += process_length(process.prompted);
     }
     bytes
 }

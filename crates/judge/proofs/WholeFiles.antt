@@ -10,7 +10,6 @@ use lib.Seq.{get_or-take}
 use borrow.Author.Tests.{ltb-true, lt-ltb}
 use Rattle.model.specs.declared.Refusal.TheVariants.{AnnotationBufferTooShort}
 use Rattle.model.specs.declared.Finding.TheVariants.{Yes, No}
-use Rattle.model.specs.declared.Verdict.{Verdict}
 use Rattle.model.specs.Mask.{if}
 use Rattle.model.specs.Sheet.{Sheet, ProperSheet}
 use Rattle.model.specs.Reading.{Reading, refused, proper, ◌then◌, read_sheet, refuse◌when◌else◌}
@@ -29,6 +28,7 @@ use Rattle.sizes.proofs.BookFront.{book_front}
 use Rattle.words.specs.Words.{words_of}
 use Rattle.words.proofs.WordLaws.{words_front}
 use Rattle.judge.specs.Printed.{verdict_text, printed}
+use Rattle.std.specs.Prelude.{Ok}
 
 -- ---- the annotation
 -- two tests that pass together
@@ -64,7 +64,7 @@ module _ (s : Sheet) (c ann : List ℕ) (good : ProperSheet s) (choice : IsTable
       by : (t : Bool) → judged (refuse◌when◌else◌ AnnotationBufferTooShort t (proper record { sheet = s; choice = c })) (take 4096 ann)
           ≡ judged (refuse◌when◌else◌ AnnotationBufferTooShort t (proper record { sheet = s; choice = c })) ann
       by true = refl
-      by false = ap (λ (t : Bool). Verdict.Found (if t Yes No)) valid_front
+      by false = ap (λ (t : Bool). Ok (if t Yes No)) valid_front
 
 -- ---- all three
 judge_front : (s : Sheet) (b ann : List ℕ) → ProperSheet s → judged (book_for s (take 339 b) (take 4096 ann)) (take 4096 ann) ≡ judged (book_for s b ann) ann

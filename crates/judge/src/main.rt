@@ -7,7 +7,7 @@ ghost use Rattle.words.specs.Words.{words_of};
 ghost use Rattle.template.specs.Holds.{Holds};
 ghost use Rattle.judge.specs.Printed.{verdict_text, printed};
 
-use model::{Finding, Verdict};
+use model::{Finding, Refusal};
 use std::env::Env;
 
 // One byte more than the longest proper sheet, so that a byte after EN is seen.
@@ -20,7 +20,7 @@ const BOOK_ROOM: usize = 339;
 const ANNOTATION_ROOM: usize = 8192;
 
 // The verdict on the bytes of three files.
-fn judge_files(sheet: &[u8], book: &[u8], annotation: &[u8]) -> Verdict
+fn judge_files(sheet: &[u8], book: &[u8], annotation: &[u8]) -> Result<Finding, Refusal>
     requires { length annotation.now ≤ 8192 }
     ensures { result ≡ judge_of sheet.now book.now (words_of annotation.now) }
 {
@@ -30,16 +30,14 @@ fn judge_files(sheet: &[u8], book: &[u8], annotation: &[u8]) -> Verdict
 }
 
 // The text of a verdict, at the front of the buffer: answers its length.
-fn verdict_text(text: &mut [u8], verdict: Verdict) -> usize
+fn verdict_text(text: &mut [u8], verdict: Result<Finding, Refusal>) -> usize
     requires { 32 ≤ length text.old }
     ensures { Holds text.new result (verdict_text verdict) }
 {
     match verdict {
-        Verdict::Refused(refusal) => text::refused_text(text, refusal),
-        Verdict::Found(finding) => match finding {
-            Finding::Yes => text::answer_text(text, b"yes\n"),
-            Finding::No => text::answer_text(text, b"no\n"),
-        },
+        Ok(Finding::Yes) => text::answer_text(text, b"yes\n"),
+        Ok(Finding::No) => text::answer_text(text, b"no\n"),
+        Err(refusal) => text::refused_text(text, refusal),
     }
 }
 
@@ -58,7 +56,7 @@ fn answer<R: Env + Print + Eprint>(rt: &R, sheet: &[u8], book: &[u8], annotation
     let mut text = [0u8; 32];
     let end = verdict_text(&mut text, verdict);
     put_out(rt, sheet, book, annotation, &text[..end]);
-    if let Verdict::Refused(refusal) = verdict {
+    if let Err(refusal) = verdict {
         cause::explain(rt, refusal, sheet);
     }
 }

@@ -5,7 +5,7 @@ use Prim.Native.Nat.{ℕ, zero, suc, ◌+◌, ◌-◌, ◌<◌, ◌≤◌}
 use native.Mathlib.Numerals.{add-one}
 use native.Mathlib.Nat.{mod-eq_of_lt}
 use native.Mathlib.Omega.{arith}
-use lib.ListN.{length, get_or, drop, replicate, length-map}
+use lib.ListN.{length, drop, replicate, length-map}
 use Rattle.model.specs.Sheet as model
 use Rattle.model.specs.Sheet.{Process, ProperArchitecture}
 use Rattle.model.specs.Compose.{row_length}
@@ -89,7 +89,7 @@ module _ (a : Architecture) where
   pub form_open : (i : ℕ) → i < a.processes → Opens (form_from i) (process_codes a i) (form_from (i + 1))
   unfolding all_records
   form_open i h =
-      let own = records i (process_in a i) (get_or a.bounds i 0) 0 in
+      let own = records i (process_in a i) (process_in a i).bound 0 in
       let rest = all_records (suc i) (drop (suc i) (processes_in a)) in
       rw (process_next (process_in a) a.processes i h, add-one i, append_assoc own rest closing) (opens_codes slot_code own (rest ++ closing))
 

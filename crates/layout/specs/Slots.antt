@@ -1,5 +1,5 @@
 -- How an array of words says what each byte of a book is. These are definitions.
-use Rattle.std.specs.Prelude.{List, ◌∷◌, map, ℕ, zero, suc, ◌%◌, get_or, take, replicate}
+use Rattle.std.specs.Prelude.{List, ◌∷◌, map, ℕ, zero, suc, ◌%◌, take, replicate}
 use Rattle.model.specs.Reading.{byte}
 use Rattle.model.specs.Book.{Slot, due, entry, TB, records}
 use Rattle.architecture.specs.declared.Architecture.{Architecture}
@@ -25,4 +25,4 @@ record_codes i x row = suc (byte TB 0) ∷ suc (byte TB 1) ∷ suc i ∷ suc x �
 
 -- the words of all records of process i
 abbrev pub process_codes : Architecture → ℕ → List ℕ
-process_codes a i = map slot_code (records i (process_in a i) (get_or a.bounds i 0) 0)
+process_codes a i = map slot_code (records i (process_in a i) (process_in a i).bound 0)

@@ -1,4 +1,5 @@
 // The layout of a sheet's books, as words: what each byte of a book is.
+// A word is 0 at an entry and else the due byte plus one, and no Option: `slot_of`, of which the contract of fill_slots speaks, has this form.
 #![tactic(auto)]
 
 ghost use Rattle.std.specs.Prelude.{◌≡◌, suc, ◌+◌, ◌<◌, ◌≤◌, length};
@@ -17,7 +18,7 @@ pub const TB: [u8; 2] = *b"TB";
 fn due(byte: u8) -> u16
     ensures { result ≡ suc byte }
 {
-    byte as u16 + 1
+    u16::from(byte) + 1
 }
 
 // A process's number, as the word of the byte that is due.
@@ -34,10 +35,10 @@ fn put_record(slots: &mut [u16], at: usize, i: usize, x: ProcessState, row: usiz
     requires i_bound { i < 4 }
     ensures { Appends slots.old at (record_codes i x.0 row) result slots.new }
 {
-    let within_mark = append::word(slots, at, due(TB[0]));
-    let after_mark = append::word(slots, within_mark, due(TB[1]));
-    let after_process = append::word(slots, after_mark, due_number(i));
-    let after_state = append::word(slots, after_process, due(x.0));
+    let within_mark = append::put(slots, at, due(TB[0]));
+    let after_mark = append::put(slots, within_mark, due(TB[1]));
+    let after_process = append::put(slots, after_mark, due_number(i));
+    let after_state = append::put(slots, after_process, due(x.0));
     append::fill(slots, after_state, 0, row)
 }
 
@@ -49,12 +50,9 @@ fn put_records(slots: &mut [u16], start: usize, a: Architecture, i: usize) -> us
     ensures { Appends slots.old start (process_codes a i) result slots.new }
 {
     let row = architecture::row_length(a.inputs_of(i));
-    let bound = a.bound_of(i);
     let mut at = start;
-    let mut x: usize = 0;
-    while x < bound {
+    for x in 0..a.bound_of(i) {
         at = put_record(slots, at, i, ProcessState(x as u8), row);
-        x += 1;
     }
     at
 }
@@ -66,13 +64,10 @@ pub fn fill_slots(slots: &mut [u16], a: Architecture) -> usize
     ensures value { (result ≡ book.book_length (architecture_of a)) × (result ≤ 338) }
     ensures result_after { slots_of slots.new result ≡ book.form (architecture_of a) }
 {
-    let n = a.processes;
-    let mut at: usize = 0;
-    let mut i: usize = 0;
-    while i < n {
+    let mut at = 0;
+    for i in 0..a.processes {
         at = put_records(slots, at, a, i);
-        i += 1;
     }
-    let within_end = append::word(slots, at, due(sheet::EN[0]));
-    append::word(slots, within_end, due(sheet::EN[1]))
+    let within_end = append::put(slots, at, due(sheet::EN[0]));
+    append::put(slots, within_end, due(sheet::EN[1]))
 }

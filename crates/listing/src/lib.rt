@@ -65,12 +65,9 @@ fn put_processes(text: &mut [u8], start: usize, a: Architecture) -> usize
     requires a_in_bounds { start + length (spec.processes_text (processes_in a)) ≤ length text.old }
     ensures { Appends text.old start (spec.processes_text (processes_in a)) result text.new }
 {
-    let n = a.processes;
     let mut at = start;
-    let mut i: usize = 0;
-    while i < n {
+    for i in 0..a.processes {
         at = put_process(text, at, a, i);
-        i += 1;
     }
     at
 }
@@ -89,14 +86,9 @@ fn put_ties(text: &mut [u8], start: usize, a: Architecture) -> usize
     requires a_in_bounds { start + length (spec.ties_text (ties_in a)) ≤ length text.old }
     ensures { Appends text.old start (spec.ties_text (ties_in a)) result text.new }
 {
-    let lefts = a.lefts;
-    let rights = a.rights;
-    let n = a.ties;
     let mut at = start;
-    let mut k: usize = 0;
-    while k < n {
-        at = put_tie(text, at, lefts[k] as usize, rights[k] as usize);
-        k += 1;
+    for tie in &a.tie_list[..a.ties] {
+        at = put_tie(text, at, tie.left as usize, tie.right as usize);
     }
     at
 }
@@ -123,22 +115,20 @@ fn put_states(text: &mut [u8], at: usize, u: Automaton) -> usize
 fn next_twos(bound: usize) -> usize
     ensures { result ≡ spec.twos (next bound) }
 {
-    if bound == 2 {
-        return 1;
+    match bound {
+        2 => 1,
+        4 => 2,
+        _ => 0,
     }
-    if bound == 4 {
-        return 2;
-    }
-    0
 }
 
 fn next_threes(bound: usize) -> usize
     ensures { result ≡ spec.threes (next bound) }
 {
-    if bound == 3 {
-        return 1;
+    match bound {
+        3 => 1,
+        _ => 0,
     }
-    0
 }
 
 // Process i leads itself.
@@ -156,7 +146,7 @@ fn rows_total(a: Architecture, i: usize, of_output: usize, of_next: usize) -> us
     requires proper { IsProper a }
     requires i_lt_processes { i < a.processes }
     requires of_output_bound { (of_output ≤ 8) × (of_next ≤ 2) }
-    ensures value { result ≡ if (eqb (get_or (leaders a.processes (ties_in a)) i 0) i) (get_or a.bounds i 0 * (of_output + 2 ^ count (get_or a.inputs i 0) * of_next)) 0 }
+    ensures value { result ≡ if (eqb (get_or (leaders a.processes (ties_in a)) i 0) i) ((process_in a i).bound * (of_output + 2 ^ count (process_in a i).inputs * of_next)) 0 }
     ensures upper_bound { result ≤ 160 }
 {
     if !leads(a, i) {
@@ -171,13 +161,10 @@ fn twos(a: Architecture) -> usize
     requires { IsProper a }
     ensures { result ≡ spec.total spec.twos (rows (spec.once (architecture_of a))) }
 {
-    let n = a.processes;
     let mut sum: usize = 0;
-    let mut i: usize = 0;
-    while i < n {
+    for i in 0..a.processes {
         let outputs = u8::count_ones(a.outputs_of(i)) as usize;
         sum += rows_total(a, i, outputs, next_twos(a.bound_of(i)));
-        i += 1;
     }
     sum
 }
@@ -187,12 +174,9 @@ fn threes(a: Architecture) -> usize
     requires { IsProper a }
     ensures { result ≡ spec.total spec.threes (rows (spec.once (architecture_of a))) }
 {
-    let n = a.processes;
     let mut sum: usize = 0;
-    let mut i: usize = 0;
-    while i < n {
+    for i in 0..a.processes {
         sum += rows_total(a, i, 0, next_threes(a.bound_of(i)));
-        i += 1;
     }
     sum
 }
@@ -219,6 +203,7 @@ fn put_counts(text: &mut [u8], at: usize, a: Architecture) -> usize
 
 // ---- the text
 // The records, and behind them the counts.
+#[tactic(auto, unfolding(crate::specs::Listing::show_text, architecture::specs::Struct::architecture_of, automaton::specs::Struct::automaton_of))]
 fn put_sheet(text: &mut [u8], sheet: Sheet) -> usize
     requires proper { Proper sheet }
     requires sheet_in_bounds { length (spec.show_text (sheet_of sheet)) ≤ length text.old }

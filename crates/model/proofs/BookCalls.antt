@@ -7,7 +7,6 @@ use lib.ListN.{length, take, drop, replicate, length-append}
 use lib.Seq.{take_at}
 use borrow.Author.Tests.{le-ltb, ltb-false}
 use Rattle.model.specs.declared.Refusal.TheVariants.{BufferTooShort, BadEntry}
-use Rattle.model.specs.declared.Reply.{Reply}
 use Rattle.model.specs.Sheet.{Process, Architecture, Sheet}
 use Rattle.model.specs.Reading.{Reading, refused, proper, refuse◌when◌else◌, read_sheet}
 use Rattle.model.specs.Choice.{entries, IsChoice, rows, chosen}
@@ -21,6 +20,7 @@ use Rattle.model.proofs.BookInverse.{filled_take, filled_length, holes_form}
 use Rattle.model.proofs.BookRead.{chosen_faultless, faultless_chosen, fault_chosen, choice_read, read_choice}
 use Rattle.model.proofs.PartsAreBook.{part_is, parts_with_end}
 use Rattle.model.proofs.PartOfProcess.{part_filled}
+use Rattle.std.specs.Prelude.{Ok}
 
 -- ---- only the entries count
 module _ (a : Architecture) where
@@ -65,37 +65,37 @@ module _ (sheet : List ℕ) (s : Sheet) (is_proper : read_sheet sheet ≡ proper
   read_is book = ap gave (then_read _ is_proper)
 
   -- ---- what was read, and what was written
-  was_read : (book : List ℕ) → (read_of sheet book).answer ≡ Reply.Done → (c : List ℕ) × (read_book s.architecture book ≡ proper c)
+  was_read : (book : List ℕ) → (read_of sheet book).answer ≡ Ok tt → (c : List ℕ) × (read_book s.architecture book ≡ proper c)
   unfolding gave
   was_read book d = by (read_book s.architecture book) (sym (ap (λ (a : AfterRead). a.answer) (read_is book)) ∙ d)
     where
-      by : (k : Reading (List ℕ)) → (gave k).answer ≡ Reply.Done → (c : List ℕ) × (k ≡ proper c)
+      by : (k : Reading (List ℕ)) → (gave k).answer ≡ Ok tt → (c : List ℕ) × (k ≡ proper c)
       by (refused r) e = let z : ◌≡◌ {A = ℕ} 0 1 = cc in absurd (omega arith)
       by (proper c) e = (c, refl)
 
-  was_written : (tables book : List ℕ) → (write_of sheet tables book).answer ≡ Reply.Done → (new : List ℕ) × (written_for s.architecture tables book ≡ proper new)
+  was_written : (tables book : List ℕ) → (write_of sheet tables book).answer ≡ Ok tt → (new : List ℕ) × (written_for s.architecture tables book ≡ proper new)
   unfolding wrote
   was_written tables book d = by (written_for s.architecture tables book) (sym (ap (λ (a : AfterWrite). a.answer) (write_is tables book)) ∙ d)
     where
-      by : (k : Reading (List ℕ)) → (wrote k book).answer ≡ Reply.Done → (new : List ℕ) × (k ≡ proper new)
+      by : (k : Reading (List ℕ)) → (wrote k book).answer ≡ Ok tt → (new : List ℕ) × (k ≡ proper new)
       by (refused r) e = let z : ◌≡◌ {A = ℕ} 0 1 = cc in absurd (omega arith)
       by (proper new) e = (new, refl)
 
-  gives_tables : (book c : List ℕ) → read_book s.architecture book ≡ proper c → read_of sheet book ≡ record { answer = Reply.Done; tables = tables_of c }
+  gives_tables : (book c : List ℕ) → read_book s.architecture book ≡ proper c → read_of sheet book ≡ record { answer = Ok tt; tables = tables_of c }
   unfolding gave
   gives_tables book c e = read_is book ∙ ap gave e
 
   writes_chosen : (tables book : List ℕ) → IsChoice s.architecture (chosen s.architecture tables) → book_length s.architecture ≤ length book
-      → write_of sheet tables book ≡ record { answer = Reply.Done; book = front (book_of s.architecture (chosen s.architecture tables)) book }
+      → write_of sheet tables book ≡ record { answer = Ok tt; book = front (book_of s.architecture (chosen s.architecture tables)) book }
   unfolding wrote
   writes_chosen tables book choice l = write_is tables book ∙ ap (λ (k : Reading (List ℕ)). wrote k book) (fitting s.architecture tables book choice l)
 
   writes_front : (c rest book : List ℕ) → IsChoice s.architecture c → book_length s.architecture ≤ length book
-      → write_of sheet (c ++ rest) book ≡ record { answer = Reply.Done; book = front (book_of s.architecture c) book }
+      → write_of sheet (c ++ rest) book ≡ record { answer = Ok tt; book = front (book_of s.architecture c) book }
   writes_front c rest book choice l =
       let same : chosen s.architecture (c ++ rest) ≡ c = chosen_front s.architecture c rest choice in
       writes_chosen (c ++ rest) book (subst (IsChoice s.architecture) (sym same) choice) l
-      ∙ ap (λ (x : List ℕ). record { answer = Reply.Done; book = front (book_of s.architecture x) book }) same
+      ∙ ap (λ (x : List ℕ). record { answer = Ok tt; book = front (book_of s.architecture x) book }) same
 
   -- ---- the same tables are those of one book
   same_tables : (c c' : List ℕ) → IsChoice s.architecture c → IsChoice s.architecture c' → tables_of c' ≡ tables_of c → c' ≡ c
@@ -104,7 +104,7 @@ module _ (sheet : List ℕ) (s : Sheet) (is_proper : read_sheet sheet ≡ proper
       let n : ℕ = length (entries s.architecture) in
       sym (take_at c' (drop (length c') (replicate 272 0)) n (fits_length choice'.tables)) ∙ ap (take n) e ∙ take_at c (drop (length c) (replicate 272 0)) n (fits_length choice.tables)
 
-  one_book : (book book' : List ℕ) → (read_of sheet book).answer ≡ Reply.Done → read_of sheet book' ≡ read_of sheet book → book' ≡ book
+  one_book : (book book' : List ℕ) → (read_of sheet book).answer ≡ Ok tt → read_of sheet book' ≡ read_of sheet book → book' ≡ book
   one_book book book' d same =
       let r = was_read book d in
       let r' = was_read book' (ap (λ (a : AfterRead). a.answer) same ∙ d) in
@@ -114,8 +114,8 @@ module _ (sheet : List ℕ) (s : Sheet) (is_proper : read_sheet sheet ≡ proper
       sym h'.1 ∙ ap (book_of s.architecture) (same_tables r.0 r'.0 h.0 h'.0 tables) ∙ h.1
 
   -- ---- write, then read; read, then write
-  reads_written : (tables book : List ℕ) → (write_of sheet tables book).answer ≡ Reply.Done
-      → read_of sheet (take (book_length s.architecture) (write_of sheet tables book).book) ≡ record { answer = Reply.Done; tables = tables_of (chosen s.architecture tables) }
+  reads_written : (tables book : List ℕ) → (write_of sheet tables book).answer ≡ Ok tt
+      → read_of sheet (take (book_length s.architecture) (write_of sheet tables book).book) ≡ record { answer = Ok tt; tables = tables_of (chosen s.architecture tables) }
   unfolding front
   reads_written tables book d =
       let r = was_written tables book d in
@@ -125,8 +125,8 @@ module _ (sheet : List ℕ) (s : Sheet) (is_proper : read_sheet sheet ≡ proper
       ∙ ap (read_of sheet) (take_at new (drop (length new) book) (book_length s.architecture) (book_length_lem s.architecture (chosen s.architecture tables)))
       ∙ gives_tables new (chosen s.architecture tables) (choice_read s.architecture new (chosen s.architecture tables) h.0 refl)
 
-  writes_read : (book buffer : List ℕ) → (read_of sheet book).answer ≡ Reply.Done → length book ≤ length buffer
-      → write_of sheet (read_of sheet book).tables buffer ≡ record { answer = Reply.Done; book = front book buffer }
+  writes_read : (book buffer : List ℕ) → (read_of sheet book).answer ≡ Ok tt → length book ≤ length buffer
+      → write_of sheet (read_of sheet book).tables buffer ≡ record { answer = Ok tt; book = front book buffer }
   unfolding tables_of front
   writes_read book buffer d l =
       let r = was_read book d in
@@ -134,7 +134,7 @@ module _ (sheet : List ℕ) (s : Sheet) (is_proper : read_sheet sheet ≡ proper
       let room : book_length s.architecture ≤ length buffer = omega (arith, book_length_lem s.architecture r.0, ap length h.1, l) in
       ap (λ (x : AfterRead). write_of sheet x.tables buffer) (gives_tables book r.0 r.1)
       ∙ writes_front r.0 (drop (length r.0) (replicate 272 0)) buffer h.0 room
-      ∙ ap (λ (b : List ℕ). record { answer = Reply.Done; book = front b buffer }) h.1
+      ∙ ap (λ (b : List ℕ). record { answer = Ok tt; book = front b buffer }) h.1
 
   -- ---- the part of a process
   part_records : (book c : List ℕ) (before : List Process) (p : Process) (after : List Process) → read_book s.architecture book ≡ proper c

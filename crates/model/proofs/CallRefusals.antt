@@ -10,9 +10,6 @@ use lib.ListN.{length}
 use borrow.Author.Tests.{ltb-true, ltb-false, lt-ltb, le-ltb, leb-true, leb-false, le-leb, lt-leb}
 use Rattle.model.specs.declared.Refusal.{Refusal}
 use Rattle.model.specs.declared.Refusal.TheVariants.{BufferTooShort, AnnotationBufferTooShort, BadEntry, NoSuchProcess, PathBufferTooShort}
-use Rattle.model.specs.declared.Verdict.{Verdict}
-use Rattle.model.specs.declared.Reply.{Reply}
-use Rattle.model.specs.declared.Outcome.{Outcome}
 use Rattle.model.specs.Sheet.{Architecture, Sheet}
 use Rattle.model.specs.Reading.{Reading, refused, proper, refuse◌when◌else◌, ◌then◌, read_sheet}
 use Rattle.model.specs.Choice.{IsChoice, chosen}
@@ -26,6 +23,7 @@ use Rattle.model.specs.Refusals.{Formed, BookRefused}
 use Rattle.model.specs.Refusals.{FindRefused, JudgeRefused, AnnotateRefused, WriteRefused, ReadRefused, PartRefused}
 use Rattle.model.proofs.Refusing.{stop, go, refused≢proper, same_refused, refused_when, refused_then, then_refused, then_read}
 use Rattle.model.proofs.BookRead.{chosen_faultless, faultless_chosen, chosen_faulty, choice_formed, choice_read, read_choice, book_refused, refused_book}
+use Rattle.std.specs.Prelude.{Err}
 
 -- ---- the answer is a refusal exactly when what was read is
 module _ (r : Refusal) where
@@ -33,47 +31,47 @@ module _ (r : Refusal) where
   pub neither : {A : Type 0} (a : A) {P : Type 0} → (P → ⊥) → P ↔ (proper a ≡ refused r)
   neither a n = (λ p. absurd (n p), λ e. absurd (refused≢proper r a (sym e)))
 
-  pub check_answer : (k : Reading Sheet) → (reply k ≡ Reply.Refused r) ↔ (k ≡ refused r)
+  pub check_answer : (k : Reading Sheet) → (reply k ≡ Err r) ↔ (k ≡ refused r)
   unfolding reply
-  check_answer (refused q) = (λ e. let z : q ≡ r = cc in ap refused z, λ e. ap Reply.Refused (same_refused q r e))
+  check_answer (refused q) = (λ e. let z : q ≡ r = cc in ap refused z, λ e. ap Err (same_refused q r e))
   check_answer (proper s) = neither s (λ e. let z : ◌≡◌ {A = ℕ} 0 1 = cc in omega arith)
 
-  find_answer : (k : Reading Sheet) (book ann : List ℕ) → ((find_in k book ann).answer ≡ Outcome.Refused r) ↔ (k ≡ refused r)
+  find_answer : (k : Reading Sheet) (book ann : List ℕ) → ((find_in k book ann).answer ≡ Err r) ↔ (k ≡ refused r)
   unfolding find_in find_choice
-  find_answer (refused q) book ann = (λ e. let z : q ≡ r = cc in ap refused z, λ e. ap Outcome.Refused (same_refused q r e))
+  find_answer (refused q) book ann = (λ e. let z : q ≡ r = cc in ap refused z, λ e. ap Err (same_refused q r e))
   find_answer (proper s) book ann = neither s (by (first_choice s))
     where
-      by : (o : Option (List ℕ)) → ¬ ((find_choice s o book ann).answer ≡ Outcome.Refused r)
+      by : (o : Option (List ℕ)) → ¬ ((find_choice s o book ann).answer ≡ Err r)
       by none e = let z : ◌≡◌ {A = ℕ} 0 1 = cc in omega arith
       by (some c) e = let z : ◌≡◌ {A = ℕ} 0 1 = cc in omega arith
 
-  judge_answer : (k : Reading Chosen) (ann : List ℕ) → (judged k ann ≡ Verdict.Refused r) ↔ (k ≡ refused r)
+  judge_answer : (k : Reading Chosen) (ann : List ℕ) → (judged k ann ≡ Err r) ↔ (k ≡ refused r)
   unfolding judged
-  judge_answer (refused q) ann = (λ e. let z : q ≡ r = cc in ap refused z, λ e. ap Verdict.Refused (same_refused q r e))
+  judge_answer (refused q) ann = (λ e. let z : q ≡ r = cc in ap refused z, λ e. ap Err (same_refused q r e))
   judge_answer (proper x) ann = neither x (λ e. let z : ◌≡◌ {A = ℕ} 0 1 = cc in omega arith)
 
-  annotate_answer : (k : Reading Chosen) (ann : List ℕ) → ((annotated k ann).answer ≡ Verdict.Refused r) ↔ (k ≡ refused r)
+  annotate_answer : (k : Reading Chosen) (ann : List ℕ) → ((annotated k ann).answer ≡ Err r) ↔ (k ≡ refused r)
   unfolding annotated annotated_by
-  annotate_answer (refused q) ann = (λ e. let z : q ≡ r = cc in ap refused z, λ e. ap Verdict.Refused (same_refused q r e))
+  annotate_answer (refused q) ann = (λ e. let z : q ≡ r = cc in ap refused z, λ e. ap Err (same_refused q r e))
   annotate_answer (proper x) ann = neither x (by (loops x.sheet x.choice))
     where
-      by : (b : Bool) → ¬ ((annotated_by x b ann).answer ≡ Verdict.Refused r)
+      by : (b : Bool) → ¬ ((annotated_by x b ann).answer ≡ Err r)
       by true e = let z : ◌≡◌ {A = ℕ} 0 1 = cc in omega arith
       by false e = let z : ◌≡◌ {A = ℕ} 0 1 = cc in omega arith
 
-  write_answer : (k : Reading (List ℕ)) (book : List ℕ) → ((wrote k book).answer ≡ Reply.Refused r) ↔ (k ≡ refused r)
+  write_answer : (k : Reading (List ℕ)) (book : List ℕ) → ((wrote k book).answer ≡ Err r) ↔ (k ≡ refused r)
   unfolding wrote
-  write_answer (refused q) book = (λ e. let z : q ≡ r = cc in ap refused z, λ e. ap Reply.Refused (same_refused q r e))
+  write_answer (refused q) book = (λ e. let z : q ≡ r = cc in ap refused z, λ e. ap Err (same_refused q r e))
   write_answer (proper new) book = neither new (λ e. let z : ◌≡◌ {A = ℕ} 0 1 = cc in omega arith)
 
-  read_answer : (k : Reading (List ℕ)) → ((gave k).answer ≡ Reply.Refused r) ↔ (k ≡ refused r)
+  read_answer : (k : Reading (List ℕ)) → ((gave k).answer ≡ Err r) ↔ (k ≡ refused r)
   unfolding gave
-  read_answer (refused q) = (λ e. let z : q ≡ r = cc in ap refused z, λ e. ap Reply.Refused (same_refused q r e))
+  read_answer (refused q) = (λ e. let z : q ≡ r = cc in ap refused z, λ e. ap Err (same_refused q r e))
   read_answer (proper c) = neither c (λ e. let z : ◌≡◌ {A = ℕ} 0 1 = cc in omega arith)
 
-  part_answer : (k : Reading Architecture) (i : ℕ) → ((cut k i).answer ≡ Reply.Refused r) ↔ (k ≡ refused r)
+  part_answer : (k : Reading Architecture) (i : ℕ) → ((cut k i).answer ≡ Err r) ↔ (k ≡ refused r)
   unfolding cut
-  part_answer (refused q) i = (λ e. let z : q ≡ r = cc in ap refused z, λ e. ap Reply.Refused (same_refused q r e))
+  part_answer (refused q) i = (λ e. let z : q ≡ r = cc in ap refused z, λ e. ap Err (same_refused q r e))
   part_answer (proper a) i = neither a (λ e. let z : ◌≡◌ {A = ℕ} 0 1 = cc in omega arith)
 
 -- ---- find: 8, then 9
@@ -249,27 +247,27 @@ tests_part sheet book i r (PartRefused.by_book s q e l h) = then_read _ e ∙ go
 both : {P Q R : Type 0} → P ↔ Q → (Q → R) → (R → Q) → P ↔ R
 both h f g = (λ p. f (h.0 p), λ r. h.1 (g r))
 
-pub find_exactly : (sheet book ann : List ℕ) (r : Refusal) → ((find_of sheet book ann).answer ≡ Outcome.Refused r) ↔ FindRefused sheet book ann r
+pub find_exactly : (sheet book ann : List ℕ) (r : Refusal) → ((find_of sheet book ann).answer ≡ Err r) ↔ FindRefused sheet book ann r
 unfolding find_of
 find_exactly sheet book ann r = both (find_answer r (find_sheet sheet book ann) book ann) (find_tests sheet book ann r) (tests_find sheet book ann r)
 
-pub judge_exactly : (sheet book ann : List ℕ) (r : Refusal) → (judge_of sheet book ann ≡ Verdict.Refused r) ↔ JudgeRefused sheet book ann r
+pub judge_exactly : (sheet book ann : List ℕ) (r : Refusal) → (judge_of sheet book ann ≡ Err r) ↔ JudgeRefused sheet book ann r
 unfolding judge_of
 judge_exactly sheet book ann r = both (judge_answer r (book_and_room sheet book ann) ann) (judge_tests sheet book ann r) (tests_judge sheet book ann r)
 
-pub annotate_exactly : (sheet book ann path : List ℕ) (r : Refusal) → ((annotate_of sheet book ann path).answer ≡ Verdict.Refused r) ↔ AnnotateRefused sheet book ann path r
+pub annotate_exactly : (sheet book ann path : List ℕ) (r : Refusal) → ((annotate_of sheet book ann path).answer ≡ Err r) ↔ AnnotateRefused sheet book ann path r
 unfolding annotate_of
 annotate_exactly sheet book ann path r =
     both (annotate_answer r (book_and_rooms sheet book ann path) ann) (annotate_tests sheet book ann path r) (tests_annotate sheet book ann path r)
 
-pub write_exactly : (sheet tables book : List ℕ) (r : Refusal) → ((write_of sheet tables book).answer ≡ Reply.Refused r) ↔ WriteRefused sheet tables book r
+pub write_exactly : (sheet tables book : List ℕ) (r : Refusal) → ((write_of sheet tables book).answer ≡ Err r) ↔ WriteRefused sheet tables book r
 unfolding write_of
 write_exactly sheet tables book r = both (write_answer r (written sheet tables book) book) (write_tests sheet tables book r) (tests_write sheet tables book r)
 
-pub read_exactly : (sheet book : List ℕ) (r : Refusal) → ((read_of sheet book).answer ≡ Reply.Refused r) ↔ ReadRefused sheet book r
+pub read_exactly : (sheet book : List ℕ) (r : Refusal) → ((read_of sheet book).answer ≡ Err r) ↔ ReadRefused sheet book r
 unfolding read_of
 read_exactly sheet book r = both (read_answer r (read_sheet sheet then λ s. read_book s.architecture book)) (read_tests sheet book r) (tests_read sheet book r)
 
-pub part_exactly : (sheet book : List ℕ) (i : ℕ) (r : Refusal) → ((part_of sheet book i).answer ≡ Reply.Refused r) ↔ PartRefused sheet book i r
+pub part_exactly : (sheet book : List ℕ) (i : ℕ) (r : Refusal) → ((part_of sheet book i).answer ≡ Err r) ↔ PartRefused sheet book i r
 unfolding part_of
 part_exactly sheet book i r = both (part_answer r (part_architecture sheet book i) i) (part_tests sheet book i r) (tests_part sheet book i r)

@@ -12,9 +12,6 @@ use Rattle.model.specs.declared.Refusal.{Refusal}
 use Rattle.model.specs.declared.Refusal.TheVariants.{SheetTooShort, WrongMark}
 use Rattle.model.specs.declared.Finding.{Finding}
 use Rattle.model.specs.declared.Finding.TheVariants.{Yes, No}
-use Rattle.model.specs.declared.Verdict.{Verdict}
-use Rattle.model.specs.declared.Reply.{Reply}
-use Rattle.model.specs.declared.Outcome.{Outcome}
 use Rattle.model.specs.declared.Desk.{Desk}
 use Rattle.model.specs.Numbers.{number}
 use Rattle.model.specs.Sheet.{Architecture, Sheet}
@@ -34,6 +31,9 @@ use Rattle.model.proofs.SheetReads.{sheet_reads}
 use Rattle.model.proofs.UnfinishedRefused.{unfinished_refused}
 use Rattle.model.proofs.FaultyRefused.{faulty_refused, begins_faulty_refused}
 use Rattle.model.proofs.Damage.{more_refused, cut_refused}
+use Rattle.std.specs.Prelude.{Result, Ok, Err}
+use Rattle.model.specs.declared.Found.{Found}
+use Rattle.model.specs.declared.Found.TheVariants.{Tables, Nothing}
 
 -- ---- the numbers that a call can give
 find_among : (sheet book ann : List ℕ) (r : Refusal) → FindRefused sheet book ann r → Among (8 ∷ 9 ∷ []) r
@@ -83,20 +83,20 @@ join_among first second sheet r (JoinRefused.too_large s t o n) = inr (Memᴰ.ta
 join_among first second sheet r (JoinRefused.short_sheet s t o fits l) = inr (Memᴰ.tail (Memᴰ.tail (Memᴰ.head refl)))
 
 -- ---- a sheet that is checked
-was_proper : (sheet : List ℕ) → check_of sheet ≡ Reply.Done → (s : Sheet) × (read_sheet sheet ≡ proper s)
+was_proper : (sheet : List ℕ) → check_of sheet ≡ Ok tt → (s : Sheet) × (read_sheet sheet ≡ proper s)
 unfolding check_of reply
 was_proper sheet e = by (read_sheet sheet) e
   where
-    by : (k : Reading Sheet) → reply k ≡ Reply.Done → (s : Sheet) × (k ≡ proper s)
+    by : (k : Reading Sheet) → reply k ≡ Ok tt → (s : Sheet) × (k ≡ proper s)
     by (refused r) e = let z : ◌≡◌ {A = ℕ} 0 1 = cc in absurd (omega arith)
     by (proper s) e = (s, refl)
 
-check_refused : (sheet : List ℕ) (r : Refusal) → (check_of sheet ≡ Reply.Refused r) ↔ (read_sheet sheet ≡ refused r)
+check_refused : (sheet : List ℕ) (r : Refusal) → (check_of sheet ≡ Err r) ↔ (read_sheet sheet ≡ refused r)
 unfolding check_of
 check_refused sheet r = check_answer r (read_sheet sheet)
 
 -- ---- nothing is changed
-find_kept : (k : Reading Sheet) (book ann : List ℕ) (o : Outcome) → (find_in k book ann).answer ≡ o → ¬ (o ≡ Outcome.Tables) → ((find_in k book ann).book ≡ book) × ((find_in k book ann).annotation ≡ ann)
+find_kept : (k : Reading Sheet) (book ann : List ℕ) (o : Result Found Refusal) → (find_in k book ann).answer ≡ o → ¬ (o ≡ Ok Tables) → ((find_in k book ann).book ≡ book) × ((find_in k book ann).annotation ≡ ann)
 unfolding find_in find_choice
 find_kept (refused q) book ann o e n = (refl, refl)
 find_kept (proper s) book ann o e n = by (first_choice s) e
@@ -105,7 +105,7 @@ find_kept (proper s) book ann o e n = by (first_choice s) e
     by none e = (refl, refl)
     by (some c) e = absurd (n (sym e))
 
-annotate_kept : (k : Reading Chosen) (ann : List ℕ) (v : Verdict) → (annotated k ann).answer ≡ v → ¬ (v ≡ Verdict.Found Yes) → (annotated k ann).annotation ≡ ann
+annotate_kept : (k : Reading Chosen) (ann : List ℕ) (v : Result Finding Refusal) → (annotated k ann).answer ≡ v → ¬ (v ≡ Ok Yes) → (annotated k ann).annotation ≡ ann
 unfolding annotated
 annotate_kept (refused q) ann v e n = refl
 annotate_kept (proper x) ann v e n = by (loops x.sheet x.choice) e
@@ -114,35 +114,35 @@ annotate_kept (proper x) ann v e n = by (loops x.sheet x.choice) e
     by true e = refl
     by false e = absurd (n (sym e))
 
-path_kept : (k : Reading Chosen) (ann path : List ℕ) (after : AfterPath) → ¬ ((annotated k ann).answer ≡ Verdict.Found No) → PathFor k path after → after ≡ path_left path
+path_kept : (k : Reading Chosen) (ann path : List ℕ) (after : AfterPath) → ¬ ((annotated k ann).answer ≡ Ok No) → PathFor k path after → after ≡ path_left path
 unfolding annotated annotated_by PathFor PathBy
 path_kept (refused q) ann path after n p = p
 path_kept (proper x) ann path after n p = by (loops x.sheet x.choice) n p
   where
-    by : (b : Bool) → ¬ ((annotated_by x b ann).answer ≡ Verdict.Found No) → PathBy x b path after → after ≡ path_left path
+    by : (b : Bool) → ¬ ((annotated_by x b ann).answer ≡ Ok No) → PathBy x b path after → after ≡ path_left path
     by true n p = absurd (n refl)
     by false n p = p
 
-write_kept : (k : Reading (List ℕ)) (book : List ℕ) (r : Refusal) → (wrote k book).answer ≡ Reply.Refused r → (wrote k book).book ≡ book
+write_kept : (k : Reading (List ℕ)) (book : List ℕ) (r : Refusal) → (wrote k book).answer ≡ Err r → (wrote k book).book ≡ book
 unfolding wrote
 write_kept (refused q) book r e = refl
 write_kept (proper new) book r e = let z : ◌≡◌ {A = ℕ} 0 1 = cc in absurd (omega arith)
 
-part_kept : (k : Reading Architecture) (book : List ℕ) (i : ℕ) (r : Refusal) → (cut k i).answer ≡ Reply.Refused r → part (cut k i) book ≡ []
+part_kept : (k : Reading Architecture) (book : List ℕ) (i : ℕ) (r : Refusal) → (cut k i).answer ≡ Err r → part (cut k i) book ≡ []
 unfolding cut part
 part_kept (refused q) book i r e = refl
 part_kept (proper s) book i r e = let z : ◌≡◌ {A = ℕ} 0 1 = cc in absurd (omega arith)
 
-refused≢tables : (r : Refusal) → ¬ (Outcome.Refused r ≡ Outcome.Tables)
+refused≢tables : (r : Refusal) → ¬ (◌≡◌ {A = Result Found Refusal} (Err r) (Ok Tables))
 refused≢tables r e = let z : ◌≡◌ {A = ℕ} 0 1 = cc in omega arith
 
-nothing≢tables : ¬ (Outcome.Nothing ≡ Outcome.Tables)
+nothing≢tables : ¬ (◌≡◌ {A = Result Found Refusal} (Ok Nothing) (Ok Tables))
 nothing≢tables e = let z : ◌≡◌ {A = ℕ} 0 1 = cc in omega arith
 
-refused≢found : (r : Refusal) (f : Finding) → ¬ (Verdict.Refused r ≡ Verdict.Found f)
+refused≢found : (r : Refusal) (f : Finding) → ¬ (◌≡◌ {A = Result Finding Refusal} (Err r) (Ok f))
 refused≢found r f e = let z : ◌≡◌ {A = ℕ} 0 1 = cc in omega arith
 
-no≢yes : ¬ (Verdict.Found No ≡ Verdict.Found Yes)
+no≢yes : ¬ (◌≡◌ {A = Result Finding Refusal} (Ok No) (Ok Yes))
 no≢yes e = let z : ◌≡◌ {A = ℕ} 0 1 = cc in omega arith
 
 pub first_demand : Demand1
@@ -182,9 +182,9 @@ first_demand = record {
   part_numbers = λ sheet book i r e. part_among sheet book i r ((part_exactly sheet book i r).0 e);
   step_numbers = λ sheet book k d r e. step_among sheet book k d r ((step_exactly sheet book k d r).0 e);
   join_numbers = λ first second sheet r e. join_among first second sheet r ((join_exactly first second sheet r).0 e);
-  find_refused = λ sheet book ann r e. find_kept (find_sheet sheet book ann) book ann (Outcome.Refused r) e (refused≢tables r);
+  find_refused = λ sheet book ann r e. find_kept (find_sheet sheet book ann) book ann (Err r) e (refused≢tables r);
   annotate_refused = λ sheet book ann path r e. (
-    annotate_kept (book_and_rooms sheet book ann path) ann (Verdict.Refused r) e (refused≢found r Yes),
+    annotate_kept (book_and_rooms sheet book ann path) ann (Err r) e (refused≢found r Yes),
     λ after p. path_kept (book_and_rooms sheet book ann path) ann path after (λ q. refused≢found r No (sym e ∙ q)) p,
   );
   write_refused = λ sheet tables book r e. write_kept (written sheet tables book) book r e;
@@ -192,7 +192,7 @@ first_demand = record {
   fresh_refused = fresh_kept;
   step_refused = step_kept;
   join_refused = join_kept;
-  none_writes_nothing = λ sheet book ann e. find_kept (find_sheet sheet book ann) book ann Outcome.Nothing e nothing≢tables;
-  loop_leaves_annotation = λ sheet book ann path e. annotate_kept (book_and_rooms sheet book ann path) ann (Verdict.Found No) e no≢yes;
+  none_writes_nothing = λ sheet book ann e. find_kept (find_sheet sheet book ann) book ann (Ok Nothing) e nothing≢tables;
+  loop_leaves_annotation = λ sheet book ann path e. annotate_kept (book_and_rooms sheet book ann path) ann (Ok No) e no≢yes;
   no_loop_leaves_path = λ sheet book ann path after n p. path_kept (book_and_rooms sheet book ann path) ann path after n p;
 }

@@ -10,8 +10,6 @@ use lib.Seq.{take_at}
 use borrow.Author.Tests.{not-false, ltb-false}
 use Rattle.model.specs.declared.Refusal.TheVariants.{BufferTooShort, AnnotationBufferTooShort}
 use Rattle.model.specs.declared.Finding.TheVariants.{Yes}
-use Rattle.model.specs.declared.Verdict.{Verdict}
-use Rattle.model.specs.declared.Outcome.{Outcome}
 use Rattle.model.specs.Sheet.{Sheet, ProperSheet}
 use Rattle.model.specs.Reading.{Reading, proper, read_sheet}
 use Rattle.model.specs.Choice.{IsChoice, padded}
@@ -29,6 +27,8 @@ use Rattle.model.proofs.DemandTwo.{exchanged, annotate_kept, passes_own}
 use Rattle.model.proofs.ChoicesInOrder.{choices_in_order}
 use Rattle.model.proofs.FirstUnique.{found_none, found_some}
 use Rattle.model.proofs.FewerStates.{padded_is_tables}
+use Rattle.std.specs.Prelude.{Ok}
+use Rattle.model.specs.declared.Found.TheVariants.{Tables, Nothing}
 
 module _ (sheet book ann : List ℕ) (s : Sheet) (not_refused : find_sheet sheet book ann ≡ proper s) where
   unrefused : (read_sheet sheet ≡ proper s) × (vertices s ≤ length ann)
@@ -67,34 +67,34 @@ module _ (sheet book ann : List ℕ) (s : Sheet) (not_refused : find_sheet sheet
         first = λ d choice b. looping d choice (f.earlier d choice b);
       }
 
-  found : (c : List ℕ) → first_choice s ≡ some c → find_of sheet book ann ≡ record { answer = Outcome.Tables; book = front (book_of s.architecture c) book; annotation = front (annotation s c) ann }
+  found : (c : List ℕ) → first_choice s ≡ some c → find_of sheet book ann ≡ record { answer = Ok Tables; book = front (book_of s.architecture c) book; annotation = front (annotation s c) ann }
   unfolding find_choice
   found c e = find_is ∙ ap (λ (o : Option (List ℕ)). find_choice s o book ann) e
 
-  answer_nothing : (o : Option (List ℕ)) → first_choice s ≡ o → (find_of sheet book ann).answer ≡ Outcome.Nothing → first_choice s ≡ none
+  answer_nothing : (o : Option (List ℕ)) → first_choice s ≡ o → (find_of sheet book ann).answer ≡ Ok Nothing → first_choice s ≡ none
   answer_nothing none e q = e
   answer_nothing (some c) e q =
-      let r : Outcome.Tables ≡ Outcome.Nothing = sym (ap (λ (a : AfterFind). a.answer) (found c e)) ∙ q in
+      let r : Ok Tables ≡ Ok Nothing = sym (ap (λ (a : AfterFind). a.answer) (found c e)) ∙ q in
       let z : ◌≡◌ {A = ℕ} 0 1 = cc in
       absurd (omega arith)
 
-  nothing_answer : (o : Option (List ℕ)) → first_choice s ≡ o → ((c : List ℕ) → IsChoice s.architecture c → RejectingLoop s c) → (find_of sheet book ann).answer ≡ Outcome.Nothing
+  nothing_answer : (o : Option (List ℕ)) → first_choice s ≡ o → ((c : List ℕ) → IsChoice s.architecture c → RejectingLoop s c) → (find_of sheet book ann).answer ≡ Ok Nothing
   unfolding find_choice
   nothing_answer none e h = ap (λ (a : AfterFind). a.answer) (find_is ∙ ap (λ (o : Option (List ℕ)). find_choice s o book ann) e)
   nothing_answer (some c) e h = let f : First s c = the_first c e in absurd (f.keeps (h c f.is_choice))
 
-  tables : (o : Option (List ℕ)) → first_choice s ≡ o → ¬ ((find_of sheet book ann).answer ≡ Outcome.Nothing)
+  tables : (o : Option (List ℕ)) → first_choice s ≡ o → ¬ ((find_of sheet book ann).answer ≡ Ok Nothing)
       → (c : List ℕ) × (a : List ℕ) × First s c × Annotates s c a
-      × (find_of sheet book ann ≡ record { answer = Outcome.Tables; book = front (book_of s.architecture c) book; annotation = front a ann })
+      × (find_of sheet book ann ≡ record { answer = Ok Tables; book = front (book_of s.architecture c) book; annotation = front a ann })
   tables none e n = absurd (n (nothing_answer none e (all_loop e)))
   tables (some c) e n =
       let f : First s c = the_first c e in
       (c, annotation s c, f, annotates s c good f.is_choice.tables f.keeps, found c e)
 
   -- ---- find's own book
-  answer_tables : (o : Option (List ℕ)) → first_choice s ≡ o → (find_of sheet book ann).answer ≡ Outcome.Tables → (c : List ℕ) × (first_choice s ≡ some c)
+  answer_tables : (o : Option (List ℕ)) → first_choice s ≡ o → (find_of sheet book ann).answer ≡ Ok Tables → (c : List ℕ) × (first_choice s ≡ some c)
   answer_tables none e q =
-      let r : Outcome.Nothing ≡ Outcome.Tables = sym (nothing_answer none e (all_loop e)) ∙ q in
+      let r : Ok Nothing ≡ Ok Tables = sym (nothing_answer none e (all_loop e)) ∙ q in
       let z : ◌≡◌ {A = ℕ} 0 1 = cc in
       absurd (omega arith)
   answer_tables (some c) e q = (c, e)
@@ -119,18 +119,18 @@ module _ (sheet book ann : List ℕ) (s : Sheet) (not_refused : find_sheet sheet
       holds = (the_first c e).keeps;
     }
 
-    agrees : (path : List ℕ) → 4 * vertices s ≤ length path → annotate_of sheet own ann path ≡ record { answer = Verdict.Found Yes; annotation = (find_of sheet book ann).annotation }
+    agrees : (path : List ℕ) → 4 * vertices s ≤ length path → annotate_of sheet own ann path ≡ record { answer = Ok Yes; annotation = (find_of sheet book ann).annotation }
     unfolding own_weighed exchanged
     agrees path room =
         annotate_kept sheet own ann path (exchanged sheet own ann own_weighed (λ good choice. (room, own_weighed.holds)))
-        ∙ ap (λ (a : AfterFind). record { answer = Verdict.Found Yes; annotation = a.annotation }) (sym (found c e))
+        ∙ ap (λ (a : AfterFind). record { answer = Ok Yes; annotation = a.annotation }) (sym (found c e))
 
-    passed : judge_of sheet own (find_of sheet book ann).annotation ≡ Verdict.Found Yes
+    passed : judge_of sheet own (find_of sheet book ann).annotation ≡ Ok Yes
     unfolding own_weighed
     passed = ap (λ (a : AfterFind). judge_of sheet own a.annotation) (found c e) ∙ passes_own sheet own ann own_weighed
 
   -- it is the book of a choice
-  pub own_choice : (find_of sheet book ann).answer ≡ Outcome.Tables → (c : List ℕ) × IsChoice s.architecture c × (book_of s.architecture c ≡ own)
+  pub own_choice : (find_of sheet book ann).answer ≡ Ok Tables → (c : List ℕ) × IsChoice s.architecture c × (book_of s.architecture c ≡ own)
   own_choice q = let r = answer_tables (first_choice s) refl q in (r.0, (the_first r.0 r.1).is_choice, sym (own_is r.0 r.1))
 
   pub third_demand : Demand3 sheet book ann s not_refused

@@ -10,7 +10,6 @@ use borrow.Author.Tests.{le-ltb, ltb-false}
 use Rattle.model.specs.declared.Refusal.TheVariants.{AnnotationBufferTooShort, PathBufferTooShort}
 use Rattle.model.specs.declared.Finding.{Finding}
 use Rattle.model.specs.declared.Finding.TheVariants.{Yes, No}
-use Rattle.model.specs.declared.Verdict.{Verdict}
 use Rattle.model.specs.Mask.{if}
 use Rattle.model.specs.Sheet.{Sheet, ProperSheet}
 use Rattle.model.specs.Reading.{Reading, refused, proper, read_sheet}
@@ -30,6 +29,7 @@ use Rattle.model.proofs.RunGraphSteps.{vertices_few}
 use Rattle.model.proofs.ComputedTests.{loops_exactly, valid_exactly, path_lt, blank_elsewhere, counted_from}
 use Rattle.model.proofs.AnnotationExact.{counted_whole, annotates}
 use Rattle.model.proofs.AnnotationPasses.{start_rejections_few, front_long, front_number, front_valid}
+use Rattle.std.specs.Prelude.{Ok}
 
 not_true_false : (b : Bool) → ¬ (b ≡ true) → b ≡ false
 not_true_false true n = absurd (n refl)
@@ -56,11 +56,11 @@ unfolding if
 loop_yes true e = let z : ◌≡◌ {A = ℕ} 0 1 = cc in absurd (omega arith)
 loop_yes false e = refl
 
-looped : (ann : List ℕ) (x : Chosen) (b : Bool) → b ≡ true → (annotated_by x b ann).answer ≡ Verdict.Found No
+looped : (ann : List ℕ) (x : Chosen) (b : Bool) → b ≡ true → (annotated_by x b ann).answer ≡ Ok No
 unfolding annotated_by
 looped ann x b e = ap (λ (t : Bool). (annotated_by x t ann).answer) e
 
-kept : (ann : List ℕ) (x : Chosen) (b : Bool) → b ≡ false → annotated_by x b ann ≡ record { answer = Verdict.Found Yes; annotation = front (annotation x.sheet x.choice) ann }
+kept : (ann : List ℕ) (x : Chosen) (b : Bool) → b ≡ false → annotated_by x b ann ≡ record { answer = Ok Yes; annotation = front (annotation x.sheet x.choice) ann }
 unfolding annotated_by
 kept ann x b e = ap (λ (t : Bool). annotated_by x t ann) e
 
@@ -117,33 +117,33 @@ module _ (sheet book ann : List ℕ) where
   }
 
   -- ---- the answers, by the computed tests
-  judge_is : {P : Sheet → List ℕ → Type 0} (w : Weighed sheet book ann P) → judge_of sheet book ann ≡ Verdict.Found (if (valid w.read w.choice ann) Yes No)
+  judge_is : {P : Sheet → List ℕ → Type 0} (w : Weighed sheet book ann P) → judge_of sheet book ann ≡ Ok (if (valid w.read w.choice ann) Yes No)
   unfolding judge_of judged
   judge_is w = ap (λ (k : Reading Chosen). judged k ann) (room w)
 
   -- a book that was judged so was weighed, and the test says so
-  was_judged : (f : Finding) → judge_of sheet book ann ≡ Verdict.Found f → Weighed sheet book ann (λ s c. if (valid s c ann) Yes No ≡ f)
+  was_judged : (f : Finding) → judge_of sheet book ann ≡ Ok f → Weighed sheet book ann (λ s c. if (valid s c ann) Yes No ≡ f)
   unfolding judge_of judged
   was_judged f e = by (book_and_room sheet book ann) refl e
     where
-      by : (k : Reading Chosen) → book_and_room sheet book ann ≡ k → judged k ann ≡ Verdict.Found f → Weighed sheet book ann (λ s c. if (valid s c ann) Yes No ≡ f)
+      by : (k : Reading Chosen) → book_and_room sheet book ann ≡ k → judged k ann ≡ Ok f → Weighed sheet book ann (λ s c. if (valid s c ann) Yes No ≡ f)
       by (refused r) q e = let z : ◌≡◌ {A = ℕ} 0 1 = cc in absurd (omega arith)
       by (proper x) q e = weighed x q (let z : if (valid x.sheet x.choice ann) Yes No ≡ f = cc in z)
 
   -- ---- yes and no
-  says_yes : (judge_of sheet book ann ≡ Verdict.Found Yes) ↔ Weighed sheet book ann (λ s c. Valid s c (λ v. get_or ann v blank))
+  says_yes : (judge_of sheet book ann ≡ Ok Yes) ↔ Weighed sheet book ann (λ s c. Valid s c (λ v. get_or ann v blank))
   says_yes = (
     λ e. let w = was_judged Yes e in exchanged w (λ good choice. (valid_exactly w.read w.choice good choice ann).0 ((test_yes (valid w.read w.choice ann)).0 w.holds)),
     λ w. judge_is w
-        ∙ ap Verdict.Found ((test_yes (valid w.read w.choice ann)).1 ((valid_exactly w.read w.choice (sheet_proper sheet w.read w.is_proper) w.is_choice.tables ann).1 w.holds)),
+        ∙ ap Ok ((test_yes (valid w.read w.choice ann)).1 ((valid_exactly w.read w.choice (sheet_proper sheet w.read w.is_proper) w.is_choice.tables ann).1 w.holds)),
   )
 
-  says_no : (judge_of sheet book ann ≡ Verdict.Found No) ↔ Weighed sheet book ann (λ s c. ¬ Valid s c (λ v. get_or ann v blank))
+  says_no : (judge_of sheet book ann ≡ Ok No) ↔ Weighed sheet book ann (λ s c. ¬ Valid s c (λ v. get_or ann v blank))
   says_no = (
     λ e. let w = was_judged No e in
         exchanged w (λ good choice h. true≢false (sym ((valid_exactly w.read w.choice good choice ann).1 h) ∙ (test_no (valid w.read w.choice ann)).0 w.holds)),
     λ w. let right = valid_exactly w.read w.choice (sheet_proper sheet w.read w.is_proper) w.is_choice.tables ann in
-        judge_is w ∙ ap Verdict.Found ((test_no (valid w.read w.choice ann)).1 (not_true_false (valid w.read w.choice ann) (λ q. w.holds (right.0 q)))),
+        judge_is w ∙ ap Ok ((test_no (valid w.read w.choice ann)).1 (not_true_false (valid w.read w.choice ann) (λ q. w.holds (right.0 q)))),
   )
 
 -- ---- annotate: loop, or the annotation
@@ -172,15 +172,15 @@ module _ (sheet book ann path : List ℕ) where
   unfolding annotate_of annotated
   annotate_is w = ap (λ (k : Reading Chosen). annotated k ann) (rooms w)
 
-  was_annotated : (f : Finding) → (annotate_of sheet book ann path).answer ≡ Verdict.Found f → Weighed sheet book ann (WithPath path (λ s c. if (loops s c) No Yes ≡ f))
+  was_annotated : (f : Finding) → (annotate_of sheet book ann path).answer ≡ Ok f → Weighed sheet book ann (WithPath path (λ s c. if (loops s c) No Yes ≡ f))
   unfolding annotate_of annotated
   was_annotated f e = by (book_and_rooms sheet book ann path) refl e
     where
-      answer : (x : Chosen) (b : Bool) → (annotated_by x b ann).answer ≡ Verdict.Found f → if b No Yes ≡ f
+      answer : (x : Chosen) (b : Bool) → (annotated_by x b ann).answer ≡ Ok f → if b No Yes ≡ f
       answer x true e = cc
       answer x false e = cc
 
-      by : (k : Reading Chosen) → book_and_rooms sheet book ann path ≡ k → (annotated k ann).answer ≡ Verdict.Found f → Weighed sheet book ann (WithPath path (λ s c. if (loops s c) No Yes ≡ f))
+      by : (k : Reading Chosen) → book_and_rooms sheet book ann path ≡ k → (annotated k ann).answer ≡ Ok f → Weighed sheet book ann (WithPath path (λ s c. if (loops s c) No Yes ≡ f))
       by (refused r) q e = let z : ◌≡◌ {A = ℕ} 0 1 = cc in absurd (omega arith)
       by (proper x) q e = with_path x q (answer x (loops x.sheet x.choice) e)
 
@@ -188,17 +188,17 @@ module _ (sheet book ann path : List ℕ) where
   right : {P : Sheet → List ℕ → Type 0} (w : Weighed sheet book ann P) → (loops w.read w.choice ≡ true) ↔ RejectingLoop w.read w.choice
   right w = loops_exactly w.read w.choice (sheet_proper sheet w.read w.is_proper) w.is_choice.tables
 
-  says_loop : ((annotate_of sheet book ann path).answer ≡ Verdict.Found No) ↔ Weighed sheet book ann (WithPath path RejectingLoop)
+  says_loop : ((annotate_of sheet book ann path).answer ≡ Ok No) ↔ Weighed sheet book ann (WithPath path RejectingLoop)
   says_loop = (
     λ e. let w = was_annotated No e in exchanged sheet book ann w (λ good choice. (w.holds.0, (right w).0 (loop_no (loops w.read w.choice) w.holds.1))),
     λ w. ap (λ (a : AfterAnnotate). a.answer) (annotate_is w) ∙ looped ann _ (loops w.read w.choice) ((right w).1 w.holds.1),
   )
 
   pub annotate_kept : (w : Weighed sheet book ann (WithPath path Keeps))
-      → annotate_of sheet book ann path ≡ record { answer = Verdict.Found Yes; annotation = front (annotation w.read w.choice) ann }
+      → annotate_of sheet book ann path ≡ record { answer = Ok Yes; annotation = front (annotation w.read w.choice) ann }
   annotate_kept w = annotate_is w ∙ kept ann _ (loops w.read w.choice) (not_true_false (loops w.read w.choice) (λ q. w.holds.1 ((right w).0 q)))
 
-  says_annotated : ((annotate_of sheet book ann path).answer ≡ Verdict.Found Yes) ↔ Weighed sheet book ann (WithPath path Keeps)
+  says_annotated : ((annotate_of sheet book ann path).answer ≡ Ok Yes) ↔ Weighed sheet book ann (WithPath path Keeps)
   says_annotated = (
     λ e. let w = was_annotated Yes e in
         exchanged sheet book ann w (λ good choice. (w.holds.0, λ o. true≢false (sym ((right w).1 o) ∙ loop_yes (loops w.read w.choice) w.holds.1))),
@@ -215,7 +215,7 @@ module _ (sheet book ann path : List ℕ) where
       (l, lasso_long _ path after l w.holds.0)
 
 -- the steps that are written fit into the buffer, and are few
-pub run_fits : (sheet book ann path : List ℕ) (after : AfterPath) → (annotate_of sheet book ann path).answer ≡ Verdict.Found No → AnnotatePath sheet book ann path after
+pub run_fits : (sheet book ann path : List ℕ) (after : AfterPath) → (annotate_of sheet book ann path).answer ≡ Ok No → AnnotatePath sheet book ann path after
     → (2 * (after.stem + after.cycle) ≤ length after.path) × (after.stem + after.cycle ≤ 8192)
 run_fits sheet book ann path after e p =
     let w = (says_loop sheet book ann path).0 e in
@@ -226,7 +226,7 @@ run_fits sheet book ann path after e p =
 
 -- counted from 0 or 1 at the start, the numbers are as long as is asked, and valid
 passes_from : (k₀ : ℕ) → k₀ ≤ 1 → (sheet book ann buffer : List ℕ) (w : Weighed sheet book ann Keeps)
-    → judge_of sheet book (front (annotation_from k₀ w.read w.choice) buffer) ≡ Verdict.Found Yes
+    → judge_of sheet book (front (annotation_from k₀ w.read w.choice) buffer) ≡ Ok Yes
 passes_from k₀ few sheet book ann buffer w =
     (says_yes sheet book (front (annotation_from k₀ w.read w.choice) buffer)).1 record {
       read = w.read;
@@ -238,11 +238,11 @@ passes_from k₀ few sheet book ann buffer w =
       holds = front_valid w.read w.choice k₀ (sheet_proper sheet w.read w.is_proper) w.is_choice.tables w.holds few buffer;
     }
 
-pub passes_own : (sheet book ann : List ℕ) (w : Weighed sheet book ann Keeps) → judge_of sheet book (front (annotation w.read w.choice) ann) ≡ Verdict.Found Yes
+pub passes_own : (sheet book ann : List ℕ) (w : Weighed sheet book ann Keeps) → judge_of sheet book (front (annotation w.read w.choice) ann) ≡ Ok Yes
 unfolding annotation
 passes_own sheet book ann w = passes_from (start_rejections w.read) (start_rejections_few w.read) sheet book ann ann w
 
-passes_judge : (sheet book ann path : List ℕ) → Weighed sheet book ann (WithPath path Keeps) → judge_of sheet book (annotate_of sheet book ann path).annotation ≡ Verdict.Found Yes
+passes_judge : (sheet book ann path : List ℕ) → Weighed sheet book ann (WithPath path Keeps) → judge_of sheet book (annotate_of sheet book ann path).annotation ≡ Ok Yes
 unfolding exchanged
 passes_judge sheet book ann path w =
     ap (λ (x : AfterAnnotate). judge_of sheet book x.annotation) (annotate_kept sheet book ann path w)

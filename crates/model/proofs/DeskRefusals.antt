@@ -14,8 +14,6 @@ use Rattle.model.specs.declared.Refusal.{Refusal}
 use Rattle.model.specs.declared.Refusal.TheVariants.{BadDirectionOrDesk}
 use Rattle.model.specs.declared.ProcessState.{ProcessState}
 use Rattle.model.specs.declared.Desk.{Desk}
-use Rattle.model.specs.declared.Reply.{Reply}
-use Rattle.model.specs.declared.Shown.{Shown}
 use Rattle.model.specs.Mask.{beyond}
 use Rattle.model.specs.Sheet.{Process, Architecture, Sheet}
 use Rattle.model.specs.Reading.{Reading, refused, proper, read_sheet}
@@ -26,6 +24,7 @@ use Rattle.model.specs.Refusals.{Misfits, direction_out, mask_out, state_out, St
 use Rattle.model.proofs.Refusing.{stop, refused≢proper, refused_when, refused_then, then_refused, then_read}
 use Rattle.model.proofs.FaultsExact.{is_beyond}
 use Rattle.model.proofs.BookRead.{choice_formed, choice_read, read_choice, book_refused, refused_book}
+use Rattle.std.specs.Prelude.{Err}
 
 -- ---- 14
 -- a state at or above the bound of its process
@@ -77,18 +76,18 @@ tests_misfit a k d (state_out i p x e f l) =
     (or_is (beyond d a.environment) _).1 (inr ((or_is (beyond k.environment a.environment) _).1 (inr (tests_high a.processes k.states i e f l))))
 
 -- ---- the answer is a refusal exactly when what was read is
-answer_refused : (a : Architecture) (m : Reading (List ℕ)) (k : Desk) (d : ℕ) (r : Refusal) → (step_by a m k d).answer ≡ Shown.Refused r → m ≡ refused r
+answer_refused : (a : Architecture) (m : Reading (List ℕ)) (k : Desk) (d : ℕ) (r : Refusal) → (step_by a m k d).answer ≡ Err r → m ≡ refused r
 unfolding step_by
 answer_refused a (refused q) k d r e = let z : q ≡ r = cc in ap refused z
 answer_refused a (proper c) k d r e = let z : ◌≡◌ {A = ℕ} 0 1 = cc in absurd (omega arith)
 
-refused_answer : (a : Architecture) {m : Reading (List ℕ)} (k : Desk) (d : ℕ) {r : Refusal} → m ≡ refused r → (step_by a m k d).answer ≡ Shown.Refused r
+refused_answer : (a : Architecture) {m : Reading (List ℕ)} (k : Desk) (d : ℕ) {r : Refusal} → m ≡ refused r → (step_by a m k d).answer ≡ Err r
 unfolding step_by
 refused_answer a k d e = rw e
 
 -- ---- step: 10, 11, then 14
 module _ (sheet book : List ℕ) (k : Desk) (d : ℕ) where
-  step_tests : (r : Refusal) → (step_of sheet book k d).answer ≡ Shown.Refused r → StepRefused sheet book k d r
+  step_tests : (r : Refusal) → (step_of sheet book k d).answer ≡ Err r → StepRefused sheet book k d r
   unfolding step_of choice_for step_when_read
   step_tests r e = by (read_sheet sheet) refl e
     where
@@ -107,18 +106,18 @@ module _ (sheet book : List ℕ) (k : Desk) (d : ℕ) where
           (λ h. behind s p h.0 h.1 (refused_when BadDirectionOrDesk _ _ r h.2))
           (refused_then (read_book s.architecture book) _ r e)
 
-      by : (m : Reading Sheet) → read_sheet sheet ≡ m → (step_when_read m book k d).answer ≡ Shown.Refused r → StepRefused sheet book k d r
+      by : (m : Reading Sheet) → read_sheet sheet ≡ m → (step_when_read m book k d).answer ≡ Err r → StepRefused sheet book k d r
       by (refused q) p e = let z : q ≡ r = cc in StepRefused.by_sheet r (p ∙ ap refused z)
       by (proper s) p e = read s p (answer_refused s.architecture (choice_for s.architecture book k d) k d r e)
 
-  tests_step : (r : Refusal) → StepRefused sheet book k d r → (step_of sheet book k d).answer ≡ Shown.Refused r
+  tests_step : (r : Refusal) → StepRefused sheet book k d r → (step_of sheet book k d).answer ≡ Err r
   unfolding step_of step_when_read choice_for
   tests_step r (StepRefused.by_sheet q e) = rw e
   tests_step r (StepRefused.by_book s q e h) = rw e (refused_answer s.architecture k d (then_refused _ (refused_book s.architecture book q h)))
   tests_step r (StepRefused.misfit s c e f choice m) =
       rw e (refused_answer s.architecture k d (then_read _ (choice_read s.architecture book c choice f.is_book) ∙ stop BadDirectionOrDesk _ (tests_misfit s.architecture k d m)))
 
-  pub step_exactly : (r : Refusal) → ((step_of sheet book k d).answer ≡ Shown.Refused r) ↔ StepRefused sheet book k d r
+  pub step_exactly : (r : Refusal) → ((step_of sheet book k d).answer ≡ Err r) ↔ StepRefused sheet book k d r
   step_exactly r = (step_tests r, tests_step r)
 
 -- ---- fresh is refused as check is
@@ -131,22 +130,22 @@ fresh_as_check sheet k = by (read_sheet sheet)
     by (proper s) = refl
 
 -- ---- the desk is left
-pub fresh_kept : (sheet : List ℕ) (k : Desk) (r : Refusal) → (fresh_of sheet k).answer ≡ Reply.Refused r → (fresh_of sheet k).desk ≡ k
+pub fresh_kept : (sheet : List ℕ) (k : Desk) (r : Refusal) → (fresh_of sheet k).answer ≡ Err r → (fresh_of sheet k).desk ≡ k
 unfolding fresh_of fresh_in
 fresh_kept sheet k r e = by (read_sheet sheet) e
   where
-    by : (m : Reading Sheet) → (fresh_in m k).answer ≡ Reply.Refused r → (fresh_in m k).desk ≡ k
+    by : (m : Reading Sheet) → (fresh_in m k).answer ≡ Err r → (fresh_in m k).desk ≡ k
     by (refused q) e = refl
     by (proper s) e = let z : ◌≡◌ {A = ℕ} 0 1 = cc in absurd (omega arith)
 
-pub step_kept : (sheet book : List ℕ) (k : Desk) (d : ℕ) (r : Refusal) → (step_of sheet book k d).answer ≡ Shown.Refused r → (step_of sheet book k d).desk ≡ k
+pub step_kept : (sheet book : List ℕ) (k : Desk) (d : ℕ) (r : Refusal) → (step_of sheet book k d).answer ≡ Err r → (step_of sheet book k d).desk ≡ k
 unfolding step_of step_by step_when_read
 step_kept sheet book k d r e = by (read_sheet sheet) e
   where
-    read : (a : Architecture) (m : Reading (List ℕ)) → (step_by a m k d).answer ≡ Shown.Refused r → (step_by a m k d).desk ≡ k
+    read : (a : Architecture) (m : Reading (List ℕ)) → (step_by a m k d).answer ≡ Err r → (step_by a m k d).desk ≡ k
     read a (refused q) e = refl
     read a (proper c) e = let z : ◌≡◌ {A = ℕ} 0 1 = cc in absurd (omega arith)
 
-    by : (m : Reading Sheet) → (step_when_read m book k d).answer ≡ Shown.Refused r → (step_when_read m book k d).desk ≡ k
+    by : (m : Reading Sheet) → (step_when_read m book k d).answer ≡ Err r → (step_when_read m book k d).desk ≡ k
     by (refused q) e = refl
     by (proper s) e = read s.architecture (choice_for s.architecture book k d) e

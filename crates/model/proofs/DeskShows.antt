@@ -13,10 +13,7 @@ use Rattle.model.specs.declared.Refusal.{Refusal}
 use Rattle.model.specs.declared.Refusal.TheVariants.{BadDirectionOrDesk}
 use Rattle.model.specs.declared.ProcessState.{ProcessState}
 use Rattle.model.specs.declared.Desk.{Desk}
-use Rattle.model.specs.declared.Reply.{Reply}
-use Rattle.model.specs.declared.Shown.{Shown}
-use Rattle.model.specs.declared.Stepped.{Stepped}
-use Rattle.model.specs.declared.FreshDesk.{FreshDesk}
+use Rattle.model.specs.Desk.{AfterStep, AfterFresh}
 use Rattle.model.specs.Mask.{if, beyond}
 use Rattle.model.specs.Sheet.{Process, Architecture, Sheet}
 use Rattle.model.specs.Reading.{Reading, proper, refuse◌when◌else◌, read_sheet}
@@ -33,6 +30,7 @@ use Rattle.model.proofs.Refusing.{then_read}
 use Rattle.model.proofs.DeskRefusals.{misfit_tests, tests_misfit}
 use Rattle.model.proofs.BookRead.{read_choice}
 use Rattle.model.proofs.ComposedNumbers.{InBounds, nobody, also_in, in_length, IsState, initial_in, step_in}
+use Rattle.std.specs.Prelude.{Result, Ok, Err}
 
 -- ---- what is put on a desk is on it, and behind it the desk is as before
 -- states put in front, and their numbers
@@ -99,9 +97,9 @@ module _ (sheet book : List ℕ) (s : Sheet) (c : List ℕ) (is_proper : read_sh
 
   -- ---- any desk: what it shows is all that counts
   -- the answer, and the composed state then, where a fault is found or not
-  answer_of : Bool → Composed → ℕ → Shown
-  answer_of true t d = Shown.Refused BadDirectionOrDesk
-  answer_of false t d = Shown.Label (label a c (step a c t d))
+  answer_of : Bool → Composed → ℕ → Result ℕ Refusal
+  answer_of true t d = Err BadDirectionOrDesk
+  answer_of false t d = Ok (label a c (step a c t d))
 
   state_of : Bool → Composed → ℕ → Composed
   state_of true t d = t
@@ -119,7 +117,7 @@ module _ (sheet book : List ℕ) (s : Sheet) (c : List ℕ) (is_proper : read_sh
   counts : (k : Desk) (d : ℕ) → let f = desk_fault a (on_desk a k) d in
       ((step_of sheet book k d).answer ≡ answer_of f (on_desk a k) d) × (on_desk a (step_of sheet book k d).desk ≡ state_of f (on_desk a k) d)
   unfolding step_by refuse◌when◌else◌ answer_of state_of
-  counts k d = subst (λ (x : Stepped). (x.answer ≡ answer_of (desk_fault a (on_desk a k) d) (on_desk a k) d) × (on_desk a x.desk ≡ state_of (desk_fault a (on_desk a k) d) (on_desk a k) d))
+  counts k d = subst (λ (x : AfterStep). (x.answer ≡ answer_of (desk_fault a (on_desk a k) d) (on_desk a k) d) × (on_desk a x.desk ≡ state_of (desk_fault a (on_desk a k) d) (on_desk a k) d))
       (sym (weighed k d)) (by (desk_fault a (on_desk a k) d))
     where
       by : (f : Bool) → let x = step_by a (refuse BadDirectionOrDesk when f else proper c) k d in (x.answer ≡ answer_of f (on_desk a k) d) × (on_desk a x.desk ≡ state_of f (on_desk a k) d)
@@ -135,17 +133,17 @@ module _ (sheet book : List ℕ) (s : Sheet) (c : List ℕ) (is_proper : read_sh
       let one = counts k d in
       let other = counts k' d in
       let rest = agreeing (step_of sheet book k d).desk (step_of sheet book k' d).desk ds (one.1 ∙ ap (λ (t : Composed). state_of (desk_fault a t d) t d) e ∙ sym other.1) in
-      (ap₂ (λ (x : Shown) (xs : List Shown). x ∷ xs) (one.0 ∙ ap (λ (t : Composed). answer_of (desk_fault a t d) t d) e ∙ sym other.0) rest.0, rest.1)
+      (ap₂ (λ (x : Result ℕ Refusal) (xs : List (Result ℕ Refusal)). x ∷ xs) (one.0 ∙ ap (λ (t : Composed). answer_of (desk_fault a t d) t d) e ∙ sym other.0) rest.0, rest.1)
 
   -- 14 exactly where something misfits
-  refused_just : (k : Desk) (d : ℕ) (r : Refusal) → ((step_of sheet book k d).answer ≡ Shown.Refused r) ↔ ((BadDirectionOrDesk ≡ r) × Misfits a k d)
+  refused_just : (k : Desk) (d : ℕ) (r : Refusal) → ((step_of sheet book k d).answer ≡ Err r) ↔ ((BadDirectionOrDesk ≡ r) × Misfits a k d)
   unfolding answer_of
   refused_just k d r = (
     λ e. by (desk_fault a (on_desk a k) d) refl (sym (counts k d).0 ∙ e),
-    λ h. (counts k d).0 ∙ ap (λ (f : Bool). answer_of f (on_desk a k) d) (tests_misfit a k d h.1) ∙ ap Shown.Refused h.0,
+    λ h. (counts k d).0 ∙ ap (λ (f : Bool). answer_of f (on_desk a k) d) (tests_misfit a k d h.1) ∙ ap Err h.0,
   )
     where
-      by : (f : Bool) → desk_fault a (on_desk a k) d ≡ f → answer_of f (on_desk a k) d ≡ Shown.Refused r → (BadDirectionOrDesk ≡ r) × Misfits a k d
+      by : (f : Bool) → desk_fault a (on_desk a k) d ≡ f → answer_of f (on_desk a k) d ≡ Err r → (BadDirectionOrDesk ≡ r) × Misfits a k d
       by true is e = let z : BadDirectionOrDesk ≡ r = cc in (z, misfit_tests a k d is)
       by false is e = let z : ◌≡◌ {A = ℕ} 0 1 = cc in absurd (omega arith)
 
@@ -160,7 +158,7 @@ module _ (sheet book : List ℕ) (s : Sheet) (c : List ℕ) (is_proper : read_sh
   held k t w = ap (λ (xs : List ℕ). record { environment = t.environment; states = xs }) (filled (length a.processes) t.states _ (in_length w.states_in))
 
   -- the desk k with t on it, after a step by d, which is refused or not
-  due : Bool → Desk → Composed → ℕ → Stepped
+  due : Bool → Desk → Composed → ℕ → AfterStep
   due f k t d = record { answer = answer_of f t d; desk = showing k (state_of f t d) }
 
   -- a step of such a desk
@@ -177,8 +175,8 @@ module _ (sheet book : List ℕ) (s : Sheet) (c : List ℕ) (is_proper : read_sh
       by false e =
           let u = step a c t d in
           let long : length t.states ≡ length u.states = in_length w.states_in ∙ sym (in_length (step_in a c t d tables w (below_bit d a.environment e)).states_in) in
-          ap (λ (x : Composed). record { answer = Shown.Label (label a c (step a c x d)); desk = showing (showing k t) (step a c x d) }) (held k t w)
-          ∙ ap (λ (x : Desk). record { answer = Shown.Label (label a c u); desk = x }) (shown_last k t u long)
+          ap (λ (x : Composed). record { answer = Ok (label a c (step a c x d)); desk = showing (showing k t) (step a c x d) }) (held k t w)
+          ∙ ap (λ (x : Desk). record { answer = Ok (label a c u); desk = x }) (shown_last k t u long)
 
   -- so it is after any step
   pub still_state : (k : Desk) (d : ℕ) → IsState a (on_desk a k) → IsState a (on_desk a (step_of sheet book k d).desk)
@@ -190,12 +188,12 @@ module _ (sheet book : List ℕ) (s : Sheet) (c : List ℕ) (is_proper : read_sh
       by false e = step_in a c (on_desk a k) d tables w (below_bit d a.environment (sym e))
 
   -- a call on such a desk: refused, it leaves the desk; taken, it answers the label of what is on the desk then
-  pub call_refused : (k : Desk) (d : ℕ) → IsState a (on_desk a k) → beyond d a.environment ≡ true → step_of sheet book k d ≡ record { answer = Shown.Refused BadDirectionOrDesk; desk = k }
+  pub call_refused : (k : Desk) (d : ℕ) → IsState a (on_desk a k) → beyond d a.environment ≡ true → step_of sheet book k d ≡ record { answer = Err BadDirectionOrDesk; desk = k }
   unfolding step_by refuse◌when◌else◌
   call_refused k d w e = weighed k d ∙ ap (λ (f : Bool). step_by a (refuse BadDirectionOrDesk when f else proper c) k d) (only_direction a (on_desk a k) d w ∙ e)
 
   pub call_taken : (k : Desk) (d : ℕ) → IsState a (on_desk a k) → beyond d a.environment ≡ false → let u = step a c (on_desk a k) d in
-      ((step_of sheet book k d).answer ≡ Shown.Label (label a c u)) × (on_desk a (step_of sheet book k d).desk ≡ u)
+      ((step_of sheet book k d).answer ≡ Ok (label a c u)) × (on_desk a (step_of sheet book k d).desk ≡ u)
   unfolding answer_of state_of
   call_taken k d w e =
       let one = counts k d in
@@ -219,8 +217,8 @@ module _ (sheet book : List ℕ) (s : Sheet) (c : List ℕ) (is_proper : read_sh
           let rest = then t w in
           let one = one_step k t d w true e in
           record {
-            whole = ap (λ (x : Stepped). desk_after sheet book x.desk ds) one ∙ rw e rest.whole;
-            labels = ap (λ (x : Stepped). x.answer ∷ answers sheet book x.desk ds) one ∙ rw e (ap (λ (l : List Shown). Shown.Refused BadDirectionOrDesk ∷ l) rest.labels);
+            whole = ap (λ (x : AfterStep). desk_after sheet book x.desk ds) one ∙ rw e rest.whole;
+            labels = ap (λ (x : AfterStep). x.answer ∷ answers sheet book x.desk ds) one ∙ rw e (ap (λ (l : List (Result ℕ Refusal)). Err BadDirectionOrDesk ∷ l) rest.labels);
             is_state = rw e rest.is_state;
           }
       by false e then =
@@ -228,14 +226,14 @@ module _ (sheet book : List ℕ) (s : Sheet) (c : List ℕ) (is_proper : read_sh
           let rest = then u (step_in a c t d tables w (below_bit d a.environment e)) in
           let one = one_step k t d w false e in
           record {
-            whole = ap (λ (x : Stepped). desk_after sheet book x.desk ds) one ∙ rw e rest.whole;
-            labels = ap (λ (x : Stepped). x.answer ∷ answers sheet book x.desk ds) one ∙ rw e (ap (λ (l : List Shown). Shown.Label (label a c u) ∷ l) rest.labels);
+            whole = ap (λ (x : AfterStep). desk_after sheet book x.desk ds) one ∙ rw e rest.whole;
+            labels = ap (λ (x : AfterStep). x.answer ∷ answers sheet book x.desk ds) one ∙ rw e (ap (λ (l : List (Result ℕ Refusal)). Ok (label a c u) ∷ l) rest.labels);
             is_state = rw e rest.is_state;
           }
 
   -- ---- a desk that was made fresh
   -- it has the initial composed state on it
-  fresh_is : (k : Desk) → fresh_of sheet k ≡ record { answer = Reply.Done; desk = showing k (initial a) }
+  fresh_is : (k : Desk) → fresh_of sheet k ≡ record { answer = Ok tt; desk = showing k (initial a) }
   unfolding fresh_of fresh_in
   fresh_is k = ap (λ (m : Reading Sheet). fresh_in m k) is_proper
 
@@ -245,7 +243,7 @@ module _ (sheet book : List ℕ) (s : Sheet) (c : List ℕ) (is_proper : read_sh
 
   -- so it holds one
   pub fresh_state : (k : Desk) → IsState a (on_desk a (fresh_of sheet k).desk)
-  fresh_state k = subst (IsState a) (sym (ap (λ (x : FreshDesk). on_desk a x.desk) (fresh_is k) ∙ held k (initial a) starts)) starts
+  fresh_state k = subst (IsState a) (sym (ap (λ (x : AfterFresh). on_desk a x.desk) (fresh_is k) ∙ held k (initial a) starts)) starts
 
   module _ (k : Desk) (ds : List ℕ) where
     -- along a row of directions from there
@@ -254,7 +252,7 @@ module _ (sheet book : List ℕ) (s : Sheet) (c : List ℕ) (is_proper : read_sh
 
     -- the whole desk
     holds_fresh : desk_after sheet book (fresh_of sheet k).desk ds ≡ showing k (after a c (initial a) (possible a ds))
-    holds_fresh = ap (λ (x : FreshDesk). desk_after sheet book x.desk ds) (fresh_is k) ∙ from_fresh.whole
+    holds_fresh = ap (λ (x : AfterFresh). desk_after sheet book x.desk ds) (fresh_is k) ∙ from_fresh.whole
 
     -- its other places
     others_left : let n = length a.processes in drop n (desk_after sheet book (fresh_of sheet k).desk ds).states ≡ drop n k.states
@@ -272,7 +270,7 @@ module _ (sheet book : List ℕ) (s : Sheet) (c : List ℕ) (is_proper : read_sh
     holds = holds_fresh;
     shows = λ k ds. ap (on_desk a) (holds_fresh k ds) ∙ held k (after a c (initial a) (possible a ds)) (from_fresh k ds).is_state;
     others_stay = others_left;
-    answered = λ k ds. ap (λ (x : FreshDesk). answers sheet book x.desk ds) (fresh_is k) ∙ (from_fresh k ds).labels;
+    answered = λ k ds. ap (λ (x : AfterFresh). answers sheet book x.desk ds) (fresh_is k) ∙ (from_fresh k ds).labels;
     refused_exactly = refused_just;
     agree = agreeing;
   }

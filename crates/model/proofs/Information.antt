@@ -13,13 +13,11 @@ use lib.Seq.{get_or-take}
 use Rattle.theory.specs.Lists.{put, filter, from}
 use Rattle.theory.proofs.ListLaws.{list_has, from_long, map_from_at}
 use Rattle.model.specs.declared.Desk.{Desk}
-use Rattle.model.specs.declared.Shown.{Shown}
-use Rattle.model.specs.declared.Stepped.{Stepped}
 use Rattle.model.specs.Mask.{beyond, count, pack}
 use Rattle.model.specs.Sheet.{Process, Architecture, Sheet, nobody, process_no, ProperProcess}
 use Rattle.model.specs.Compose.{Composed, row_length, process_length, row_at, label, step, initial, composed}
 use Rattle.model.specs.Choice.{entries, begins, length_of}
-use Rattle.model.specs.Desk.{numbers, on_desk, fresh_of, step_of, desk_after, after, possible}
+use Rattle.model.specs.Desk.{AfterStep, numbers, on_desk, fresh_of, step_of, desk_after, after, possible}
 use Rattle.model.specs.Information.{row_of, row_table, values_read, index_read, Face, face, shows, alone, face_on, shows_on}
 use Rattle.model.specs.Demands.{InSystem, AtDesk, Information}
 use Rattle.model.proofs.ProperSheet.{sheet_proper, below_bit}
@@ -34,6 +32,8 @@ use Rattle.model.proofs.TiedTables.{chained}
 use Rattle.model.proofs.DeskShows.{fresh_state, desk_shows, call_refused, call_taken}
 use Rattle.model.proofs.ActsAlone.{acts_alone}
 use Rattle.model.proofs.SamePacked.{same_packed, chain_shape}
+use Rattle.std.specs.Prelude.{Result, Ok}
+use Rattle.model.specs.declared.Refusal.{Refusal}
 
 -- ---- two processes with the same rows
 -- a process of one system is proper
@@ -101,7 +101,7 @@ module _ {sheet book : List ℕ} {s : Sheet} {c : List ℕ} {i : ℕ} (z : AtDes
   system = record { is_proper = (sheet_proper sheet s z.is_proper).architecture; tables = (read_choice a book c z.is_book).0.tables; known = z.known }
 
   -- the face on a desk that holds u, where the label of u is answered
-  face_on_lem : (k : Desk) (u : Composed) → on_desk a k ≡ u → IsState a u → face_on i m (Shown.Label (label a c u)) k ≡ face a c i u ∷ []
+  face_on_lem : (k : Desk) (u : Composed) → on_desk a k ≡ u → IsState a u → face_on i m (Ok (label a c u)) k ≡ face a c i u ∷ []
   unfolding face_on on_desk face
   face_on_lem k u e w =
       ap₂ (λ (x o : ℕ). record { state = x; outputs = o } ∷ [])
@@ -119,7 +119,7 @@ module _ {sheet book : List ℕ} {s : Sheet} {c : List ℕ} {i : ℕ} (z : AtDes
     where
       by : (f : Bool) → beyond d a.environment ≡ f → ((n : Desk) → IsState a (on_desk a n) → Shows n ds) → Shows k (d ∷ ds)
       by true e then =
-          ap (λ (r : Stepped). face_on i m r.answer r.desk ++ shows_on sheet book i m r.desk ds) (call_refused sheet book s c z.is_proper z.is_book k d w e)
+          ap (λ (r : AfterStep). face_on i m r.answer r.desk ++ shows_on sheet book i m r.desk ds) (call_refused sheet book s c z.is_proper z.is_book k d w e)
           ∙ rw e (then k w)
       by false e then =
           let t = on_desk a k in
@@ -129,7 +129,7 @@ module _ {sheet book : List ℕ} {s : Sheet} {c : List ℕ} {i : ℕ} (z : AtDes
           let state : IsState a u = step_in a c t d system.tables w (below_bit d a.environment e) in
           let rest : shows_on sheet book i m n ds ≡ drop 1 (shows a c i u (possible a ds)) =
           then n (subst (IsState a) (sym call.1) state) ∙ ap (λ (x : Composed). drop 1 (shows a c i x (possible a ds))) call.1 in
-          ap₂ (λ (fs gs : List Face). fs ++ gs) (ap (λ (x : Shown). face_on i m x n) call.0 ∙ face_on_lem n u call.1 state) rest
+          ap₂ (λ (fs gs : List Face). fs ++ gs) (ap (λ (x : Result ℕ Refusal). face_on i m x n) call.0 ∙ face_on_lem n u call.1 state) rest
           ∙ sym (first_seen a c i u (possible a ds))
           ∙ rw e refl
 

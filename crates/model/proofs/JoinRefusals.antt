@@ -12,7 +12,6 @@ use Rattle.theory.proofs.ListLaws.{same_is}
 use Rattle.theory.proofs.Bools.{bool_cases}
 use Rattle.model.specs.declared.Refusal.{Refusal}
 use Rattle.model.specs.declared.Refusal.TheVariants.{BufferTooShort, FrontsDiffer, JoinTooLarge}
-use Rattle.model.specs.declared.Written.{Written}
 use Rattle.model.specs.Sheet.{Architecture, Automaton, Sheet}
 use Rattle.model.specs.Reading.{Reading, refused, proper, refuse◌when◌else◌, ◌then◌, read_sheet}
 use Rattle.model.specs.SheetFile.{front_bytes, sheet_bytes}
@@ -23,6 +22,7 @@ use Rattle.model.proofs.ProperSheet.{or-false}
 use Rattle.model.proofs.Refusing.{stop, go, refused≢proper, same_refused, refused_when, refused_then, then_refused, then_read}
 use Rattle.model.proofs.FaultsExact.{or_off}
 use Rattle.model.proofs.CallRefusals.{neither}
+use Rattle.std.specs.Prelude.{Err}
 
 -- ---- 19 and 20
 -- the records before AU are the same bytes
@@ -115,22 +115,22 @@ module _ (first second sheet : List ℕ) where
       ∙ go JoinTooLarge _ ((fitting (join_automata s.automaton t.automaton)).1 fits) ∙ stop BufferTooShort _ (lt-ltb _ _ l)
 
 -- ---- the answer, and the buffer
-sheet_answer : (r : Refusal) (k : Reading (List ℕ)) (sheet : List ℕ) → ((wrote_sheet k sheet).answer ≡ Written.Refused r) ↔ (k ≡ refused r)
+sheet_answer : (r : Refusal) (k : Reading (List ℕ)) (sheet : List ℕ) → ((wrote_sheet k sheet).answer ≡ Err r) ↔ (k ≡ refused r)
 unfolding wrote_sheet
-sheet_answer r (refused q) sheet = (λ e. let z : q ≡ r = cc in ap refused z, λ e. ap Written.Refused (same_refused q r e))
+sheet_answer r (refused q) sheet = (λ e. let z : q ≡ r = cc in ap refused z, λ e. ap Err (same_refused q r e))
 sheet_answer r (proper new) sheet = neither r new (λ e. let z : ◌≡◌ {A = ℕ} 0 1 = cc in omega arith)
 
-pub join_exactly : (first second sheet : List ℕ) (r : Refusal) → ((join_of first second sheet).answer ≡ Written.Refused r) ↔ JoinRefused first second sheet r
+pub join_exactly : (first second sheet : List ℕ) (r : Refusal) → ((join_of first second sheet).answer ≡ Err r) ↔ JoinRefused first second sheet r
 unfolding join_of
 join_exactly first second sheet r =
     let row = in_a_row first second sheet in
     let answer = sheet_answer r (join_bytes first second then λ new. room_for_sheet new sheet) sheet in
     (λ e. join_tests first second sheet r (sym row ∙ answer.0 e), λ h. answer.1 (row ∙ tests_join first second sheet r h))
 
-pub join_kept : (first second sheet : List ℕ) (r : Refusal) → (join_of first second sheet).answer ≡ Written.Refused r → (join_of first second sheet).sheet ≡ sheet
+pub join_kept : (first second sheet : List ℕ) (r : Refusal) → (join_of first second sheet).answer ≡ Err r → (join_of first second sheet).sheet ≡ sheet
 unfolding join_of wrote_sheet
 join_kept first second sheet r e = by (join_bytes first second then λ new. room_for_sheet new sheet) e
   where
-    by : (k : Reading (List ℕ)) → (wrote_sheet k sheet).answer ≡ Written.Refused r → (wrote_sheet k sheet).sheet ≡ sheet
+    by : (k : Reading (List ℕ)) → (wrote_sheet k sheet).answer ≡ Err r → (wrote_sheet k sheet).sheet ≡ sheet
     by (refused q) e = refl
     by (proper new) e = let z : ◌≡◌ {A = ℕ} 0 1 = cc in absurd (omega arith)

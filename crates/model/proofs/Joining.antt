@@ -6,7 +6,6 @@ use Prim.Native.Nat.{ℕ, ◌≤◌}
 use lib.ListN.{length, get_or}
 use borrow.Author.Tests.{le-ltb}
 use Rattle.model.specs.declared.Refusal.TheVariants.{BufferTooShort, FrontsDiffer, JoinTooLarge}
-use Rattle.model.specs.declared.Outcome.{Outcome}
 use Rattle.model.specs.Sheet.{Architecture, Automaton, Sheet, ProperArchitecture, ProperAutomaton, ProperSheet}
 use Rattle.model.specs.Reading.{Reading, proper, EN, read_sheet}
 use Rattle.model.specs.SheetFile.{front_bytes, automaton_bytes, records_bytes, sheet_bytes, longest_sheet}
@@ -24,6 +23,8 @@ use Rattle.model.proofs.DemandThree.{third_demand}
 use Rattle.model.proofs.JoinRefusals.{one_front, fitting}
 use Rattle.model.proofs.JoinedAutomata.{joined_proper}
 use Rattle.model.proofs.JoinedRuns.{loops_either}
+use Rattle.std.specs.Prelude.{Ok}
+use Rattle.model.specs.declared.Found.TheVariants.{Nothing}
 
 -- ---- records before AU that are the same bytes are the same
 module _ (a b : Architecture) (same : front_bytes a ≡ front_bytes b) where
@@ -109,13 +110,13 @@ module _ {first second joined : List ℕ} {s t : Sheet} (joins : Joins first sec
 
   -- ---- find
   module _ (book ann : List ℕ) (room : find_sheet joined book ann ≡ proper (join_sheets s t)) where
-    none_exactly : ((find_of joined book ann).answer ≡ Outcome.Nothing) ↔ ((c : List ℕ) → IsChoice s.architecture c → RejectingLoop s c ⊎ RejectingLoop t c)
+    none_exactly : ((find_of joined book ann).answer ≡ Ok Nothing) ↔ ((c : List ℕ) → IsChoice s.architecture c → RejectingLoop s c ⊎ RejectingLoop t c)
     unfolding join_sheets
     none_exactly =
         let found = (third_demand joined book ann (join_sheets s t) room).none_exactly in
         (λ q c choice. (either c choice).0 (found.0 q c choice), λ h. found.1 (λ c choice. (either c choice).1 (h c choice)))
 
-    otherwise : ¬ ((find_of joined book ann).answer ≡ Outcome.Nothing) → (c : List ℕ) × FirstOfBoth s t c × ((find_of joined book ann).book ≡ front (book_of s.architecture c) book)
+    otherwise : ¬ ((find_of joined book ann).answer ≡ Ok Nothing) → (c : List ℕ) × FirstOfBoth s t c × ((find_of joined book ann).book ≡ front (book_of s.architecture c) book)
     unfolding join_sheets
     otherwise n =
         let r = (third_demand joined book ann (join_sheets s t) room).otherwise n in

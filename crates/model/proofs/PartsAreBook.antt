@@ -6,13 +6,13 @@ use native.Mathlib.Omega.{arith}
 use lib.ListN.{length, take, length-append}
 use lib.Seq.{take-add}
 use borrow.Author.Tests.{lt-leb}
-use Rattle.model.specs.declared.Reply.{Reply}
 use Rattle.model.specs.Sheet.{Process, Sheet}
 use Rattle.model.specs.Reading.{EN, byte, proper, refuse◌when◌else◌, ◌then◌, read_sheet}
 use Rattle.model.specs.Book.{Slot, due, entry, records, all_records, form, filled, book_of, read_book, records_length, part_start, part_end}
 use Rattle.model.specs.Calls.{no_process, part_for, part_architecture, cut, part_of, part}
 use Rattle.model.specs.Demands.{parts_of}
 use Rattle.model.proofs.PartIsRecords.{records_length_lem, HasPart, part_right}
+use Rattle.std.specs.Prelude.{Ok}
 
 -- the parts of all processes are all records
 all_length : (j : ℕ) (ps : List Process) → part_start ps (length ps) ≡ length (all_records j ps)
@@ -31,7 +31,7 @@ then_end (entry ∷ ps) (v ∷ c) = rw (then_end ps c)
 module _ (sheet : List ℕ) (s : Sheet) (is_proper : read_sheet sheet ≡ proper s) (book c : List ℕ) (is_read : read_book s.architecture book ≡ proper c) where
   -- a part of a proper book is not refused
   pub part_is : (i : ℕ) → i < length s.architecture.processes
-      → part_of sheet book i ≡ record { answer = Reply.Done; start = part_start s.architecture.processes i; end = part_end s.architecture.processes i }
+      → part_of sheet book i ≡ record { answer = Ok tt; start = part_start s.architecture.processes i; end = part_end s.architecture.processes i }
   unfolding part_of part_architecture part_for cut ◌then◌ refuse◌when◌else◌ no_process
   part_is i l = simp (is_proper, lt-leb (length s.architecture.processes) i l, is_read)
 

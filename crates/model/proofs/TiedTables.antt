@@ -4,7 +4,6 @@ use mathlib.Core.List.{List}
 use Prim.Native.Nat.{ℕ}
 use native.Mathlib.Omega.{arith}
 use Rattle.model.specs.declared.Refusal.TheVariants.{BufferTooShort, AnnotationBufferTooShort, BadEntry}
-use Rattle.model.specs.declared.Outcome.{Outcome}
 use Rattle.model.specs.Sheet.{Architecture, Sheet}
 use Rattle.model.specs.Reading.{Reading, refused, proper, read_sheet}
 use Rattle.model.specs.Choice.{KeepsTies}
@@ -18,6 +17,8 @@ use Rattle.model.proofs.BookRead.{choice_read, read_choice}
 use Rattle.model.proofs.CallRefusals.{judge_exactly, annotate_exactly, write_exactly, read_exactly, part_exactly}
 use Rattle.model.proofs.DeskRefusals.{step_exactly}
 use Rattle.model.proofs.DemandThree.{own_choice}
+use Rattle.std.specs.Prelude.{Ok}
+use Rattle.model.specs.declared.Found.TheVariants.{Tables}
 
 -- ties chain: no word of it is needed in `KeepsTies`
 pub chained : (a : Architecture) (c : List ℕ) → KeepsTies a c → OneTable a c
@@ -40,11 +41,11 @@ module _ (sheet : List ℕ) (s : Sheet) (is_proper : read_sheet sheet ≡ proper
       sym (same_proper h.0 x room) ∙ same_proper h.0 s (sym h.1 ∙ is_proper)
 
   -- who gets tables was not refused
-  unrefused : (book ann : List ℕ) → (find_of sheet book ann).answer ≡ Outcome.Tables → find_sheet sheet book ann ≡ proper s
+  unrefused : (book ann : List ℕ) → (find_of sheet book ann).answer ≡ Ok Tables → find_sheet sheet book ann ≡ proper s
   unfolding find_of find_in
   unrefused book ann q = by (find_sheet sheet book ann) refl q
     where
-      by : (k : Reading Sheet) → find_sheet sheet book ann ≡ k → (find_in k book ann).answer ≡ Outcome.Tables → find_sheet sheet book ann ≡ proper s
+      by : (k : Reading Sheet) → find_sheet sheet book ann ≡ k → (find_in k book ann).answer ≡ Ok Tables → find_sheet sheet book ann ≡ proper s
       by (refused r) e a = let z : ◌≡◌ {A = ℕ} 0 1 = cc in absurd (omega arith)
       by (proper x) e a = e ∙ ap proper (searched book ann x e)
 

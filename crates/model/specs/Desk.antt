@@ -1,18 +1,16 @@
 -- 01, "Public calls": a desk on which tables are stepped, direction by direction. What its two calls answer, and what the desk then holds.
-use Rattle.std.specs.Prelude.{Bool, false, ◌||◌, not, List, [], ◌∷◌, ◌++◌, map, ℕ, leb, length, take, drop}
+use Rattle.std.specs.Prelude.{Bool, false, ◌||◌, not, List, [], ◌∷◌, ◌++◌, map, ℕ, leb, length, take, drop, Result, Ok, Err, ⊤}
 use Rattle.theory.specs.Lists.{filter}
 use Rattle.model.specs.declared.Refusal.TheVariants.{BadDirectionOrDesk}
 use Rattle.model.specs.declared.ProcessState.{ProcessState}
 use Rattle.model.specs.declared.Desk.{Desk}
-use Rattle.model.specs.declared.Reply.{Reply}
-use Rattle.model.specs.declared.Shown.{Shown}
 use Rattle.model.specs.declared.Stepped.{Stepped}
-use Rattle.model.specs.declared.FreshDesk.{FreshDesk}
 use Rattle.model.specs.Mask.{if, beyond}
 use Rattle.model.specs.Sheet.{Process, Architecture, Sheet}
 use Rattle.model.specs.Reading.{Reading, refused, proper, refuse◌when◌else◌, ◌then◌, read_sheet}
 use Rattle.model.specs.Compose.{Composed, label, step, initial}
 use Rattle.model.specs.Book.{read_book}
+use Rattle.model.specs.declared.Refusal.{Refusal}
 
 -- ---- what a desk shows
 -- the numbers of process states
@@ -32,18 +30,38 @@ unfoldable pub showing : Desk → Composed → Desk
 showing k t = record { states = process_states t.states ++ drop (length t.states) k.states; environment = t.environment }
 
 -- ---- make a desk fresh: the sheet's faults
+-- what making a desk fresh answers, and the desk after it
+pub record AfterFresh : Type 0 where
+  pub answer : Result ⊤ Refusal
+  pub desk : Desk
+
+-- a desk that is handed over by value is what it was where the call is refused
+abbrev pub after_fresh : Result Desk Refusal → Desk → AfterFresh
+after_fresh (Ok new) k = record { answer = Ok tt; desk = new }
+after_fresh (Err r) k = record { answer = Err r; desk = k }
+
 -- all of the sheet's processes in state 0, and the root mask; a refusal leaves the desk
-unfoldable pub fresh_in : Reading Sheet → Desk → FreshDesk
+unfoldable pub fresh_in : Reading Sheet → Desk → AfterFresh
 unfolding showing initial
-fresh_in (refused r) k = record { answer = Reply.Refused r; desk = k }
-fresh_in (proper s) k = record { answer = Reply.Done; desk = showing k (initial s.architecture) }
+fresh_in (refused r) k = record { answer = Err r; desk = k }
+fresh_in (proper s) k = record { answer = Ok tt; desk = showing k (initial s.architecture) }
 
 -- fresh
-unfoldable pub fresh_of : List ℕ → Desk → FreshDesk
+unfoldable pub fresh_of : List ℕ → Desk → AfterFresh
 unfolding fresh_in read_sheet
 fresh_of sheet k = fresh_in (read_sheet sheet) k
 
 -- ---- step a desk by a direction: the sheet's faults, 10, 11, 14
+-- what a step answers, the label of the new composed state, and the desk after it
+pub record AfterStep : Type 0 where
+  pub answer : Result ℕ Refusal
+  pub desk : Desk
+
+-- a desk that is handed over by value is what it was where the call is refused
+abbrev pub after_step : Result Stepped Refusal → Desk → AfterStep
+after_step (Ok next) k = record { answer = Ok next.label; desk = next.desk }
+after_step (Err r) k = record { answer = Err r; desk = k }
+
 -- a state at or above the bound of its process
 unfoldable pub too_high : List Process → List ℕ → Bool
 too_high [] xs = false
@@ -64,21 +82,21 @@ choice_for a book k d =
     proper c
 
 -- the desk moves on, and its new label is answered; a refusal leaves the desk
-unfoldable pub step_by : Architecture → Reading (List ℕ) → Desk → ℕ → Stepped
+unfoldable pub step_by : Architecture → Reading (List ℕ) → Desk → ℕ → AfterStep
 unfolding step on_desk label showing
-step_by a (refused r) k d = record { answer = Shown.Refused r; desk = k }
+step_by a (refused r) k d = record { answer = Err r; desk = k }
 step_by a (proper c) k d =
     let t = step a c (on_desk a k) d in
-    record { answer = Shown.Label (label a c t); desk = showing k t }
+    record { answer = Ok (label a c t); desk = showing k t }
 
 -- the sheet is read first
-unfoldable pub step_when_read : Reading Sheet → List ℕ → Desk → ℕ → Stepped
+unfoldable pub step_when_read : Reading Sheet → List ℕ → Desk → ℕ → AfterStep
 unfolding step_by choice_for
-step_when_read (refused r) book k d = record { answer = Shown.Refused r; desk = k }
+step_when_read (refused r) book k d = record { answer = Err r; desk = k }
 step_when_read (proper s) book k d = step_by s.architecture (choice_for s.architecture book k d) k d
 
 -- step
-unfoldable pub step_of : (sheet book : List ℕ) → Desk → ℕ → Stepped
+unfoldable pub step_of : (sheet book : List ℕ) → Desk → ℕ → AfterStep
 unfolding step_when_read read_sheet
 step_of sheet book k d = step_when_read (read_sheet sheet) book k d
 
@@ -90,7 +108,7 @@ desk_after sheet book k [] = k
 desk_after sheet book k (d ∷ ds) = desk_after sheet book (step_of sheet book k d).desk ds
 
 -- what they answer
-unfoldable pub answers : (sheet book : List ℕ) → Desk → List ℕ → List Shown
+unfoldable pub answers : (sheet book : List ℕ) → Desk → List ℕ → List (Result ℕ Refusal)
 unfolding step_of
 answers sheet book k [] = []
 answers sheet book k (d ∷ ds) = (step_of sheet book k d).answer ∷ answers sheet book (step_of sheet book k d).desk ds
@@ -108,9 +126,9 @@ unfolding filter beyond
 possible a ds = filter (λ d. not (beyond d a.environment)) ds
 
 -- the answers that are due from t on: 14 for a direction that is refused, and otherwise the label after its step
-unfoldable pub due_from : Architecture → List ℕ → Composed → List ℕ → List Shown
+unfoldable pub due_from : Architecture → List ℕ → Composed → List ℕ → List (Result ℕ Refusal)
 unfolding if beyond step label
 due_from a c t [] = []
 due_from a c t (d ∷ ds) =
     let u = step a c t d in
-    if (beyond d a.environment) (Shown.Refused BadDirectionOrDesk ∷ due_from a c t ds) (Shown.Label (label a c u) ∷ due_from a c u ds)
+    if (beyond d a.environment) (Err BadDirectionOrDesk ∷ due_from a c t ds) (Ok (label a c u) ∷ due_from a c u ds)

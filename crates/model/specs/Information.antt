@@ -1,14 +1,14 @@
 -- 01, "How the machines run together": what a process reads along a run, what is seen of it then, and what its table does alone.
-use Rattle.std.specs.Prelude.{List, [], ◌∷◌, ◌++◌, map, ℕ, suc, get_or, take, drop}
+use Rattle.std.specs.Prelude.{List, [], ◌∷◌, ◌++◌, map, ℕ, suc, get_or, take, drop, Result, Ok, Err}
 use Rattle.std.specs.Int.Bits.{bit_and, bit_or}
 use Rattle.theory.specs.Lists.{from}
 use Rattle.model.specs.declared.Desk.{Desk}
-use Rattle.model.specs.declared.Shown.{Shown}
 use Rattle.model.specs.Mask.{pack}
 use Rattle.model.specs.Sheet.{Process, Architecture, process_no}
 use Rattle.model.specs.Compose.{Composed, row_length, row_at, outputs, reads, present, step}
 use Rattle.model.specs.Choice.{begins}
 use Rattle.model.specs.Desk.{numbers, step_of}
+use Rattle.model.specs.declared.Refusal.{Refusal}
 
 -- ---- the table of a process
 -- the row of p for state x, if its entries begin at `at`: an output mask, and the next states by their indexes
@@ -76,9 +76,9 @@ alone table x (k ∷ ks) = face_in table x ∷ alone table (get_or (get_or table
 
 -- ---- on a desk
 -- where a step answers so and leaves the desk k: the place of process i, and the label's bits within these outputs; a refusal is left out
-unfoldable pub face_on : (i outputs : ℕ) → Shown → Desk → List Face
-face_on i outputs (Shown.Refused r) k = []
-face_on i outputs (Shown.Label l) k = record { state = get_or (numbers k.states) i 0; outputs = bit_and l outputs } ∷ []
+unfoldable pub face_on : (i outputs : ℕ) → Result ℕ Refusal → Desk → List Face
+face_on i outputs (Err r) k = []
+face_on i outputs (Ok l) k = record { state = get_or (numbers k.states) i 0; outputs = bit_and l outputs } ∷ []
 
 -- along a row of steps
 unfoldable pub shows_on : (sheet book : List ℕ) → (i outputs : ℕ) → Desk → List ℕ → List Face

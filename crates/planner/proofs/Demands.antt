@@ -3,7 +3,6 @@ use mathlib.Core.Path.{◌≡◌, refl}
 use mathlib.Core.List.{List, [], ◌∷◌}
 use Prim.Native.Nat.{ℕ}
 use Rattle.model.specs.declared.Finding.TheVariants.{Yes, No}
-use Rattle.model.specs.declared.Verdict.{Verdict}
 use Rattle.model.specs.Sheet.{Sheet}
 use Rattle.model.specs.Reading.{proper, read_sheet}
 use Rattle.model.specs.BenchCases.{sheet_e, edge, book_e}
@@ -20,6 +19,7 @@ use Rattle.model.proofs.DeskShows.{desk_shows}
 use Rattle.model.proofs.Information.{all_information}
 use Rattle.model.proofs.Joining.{all_joined}
 use Rattle.model.proofs.Sizes.{all_sizes}
+use Rattle.std.specs.Prelude.{Ok}
 
 -- 1: a fault gets exactly its number, and every lent buffer then holds what it held before
 pub exact_refusals : Demand1
@@ -64,6 +64,6 @@ exact_sizes = all_sizes
 
 -- ---- an example
 -- case H: the number rises where a rejecting state is entered: strictness on the vertex left would turn both verdicts round
-pub strict_on_entering : (judge_of (sheet_e 1 2 1 (edge 0 1)) book_e (0 ∷ 0 ∷ []) ≡ Verdict.Found Yes) × (judge_of (sheet_e 1 2 2 (edge 0 1)) book_e (0 ∷ 0 ∷ []) ≡ Verdict.Found No)
+pub strict_on_entering : (judge_of (sheet_e 1 2 1 (edge 0 1)) book_e (0 ∷ 0 ∷ []) ≡ Ok Yes) × (judge_of (sheet_e 1 2 2 (edge 0 1)) book_e (0 ∷ 0 ∷ []) ≡ Ok No)
 unfolding judge_of
 strict_on_entering = (refl, refl)

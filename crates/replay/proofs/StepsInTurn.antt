@@ -1,14 +1,8 @@
 -- Steps one behind another: which is due next, and what is left behind it.
-use mathlib.Core.Path.{◌≡◌, refl, ap}
-use mathlib.Core.List.{List, [], ◌∷◌}
-use Prim.Native.Nat.{ℕ, ◌+◌, ◌^◌, ◌<◌, ◌≤◌}
-use native.Mathlib.Nat.{add-zero}
-use native.Mathlib.Omega.{arith}
-use lib.ListN.{length, get_or, drop, length-drop, drop_of_length-le}
-use lib.Seq.{get_or-drop, drop-drop}
+use Rattle.std.proofs.Common.{◌≡◌, ℕ, ◌^◌, ◌<◌, List, [], ◌∷◌, ◌++◌, length, get_or, refl, arith}
 use Rattle.model.specs.Sheet.{Sheet}
 use Rattle.append.proofs.Appending.{Opens}
-use Rattle.replay.specs.Run.{Vertex, onward, after, step_text, steps_text, Possible, none, also}
+use Rattle.replay.specs.Run.{Vertex, onward, after, step_text, steps_text, Possible, also}
 
 -- of the steps that are due, the next goes by direction d along edge e, and the rest follow
 pub record Next (s : Sheet) (due : List ℕ) (d e : ℕ) (rest : List ℕ) : Type 0 where
@@ -17,18 +11,15 @@ pub record Next (s : Sheet) (due : List ℕ) (d e : ℕ) (rest : List ℕ) : Typ
   pub edge_known : e < length s.automaton.edges
   pub rest_possible : Possible s rest
 
-first : {s : Sheet} {steps : List ℕ} → Possible s steps → 0 < length steps → Next s steps (get_or steps 0 0) (get_or steps 1 0) (drop 2 steps)
-first none h = absurd (omega arith)
-first (also d e p) h = record { is = refl; direction_possible = d; edge_known = e; rest_possible = p }
+first : {s : Sheet} {d e : ℕ} {rest : List ℕ} → Possible s (d ∷ e ∷ rest) → Next s (d ∷ e ∷ rest) d e rest
+first (also d e p) = record { is = refl; direction_possible = d; edge_known = e; rest_possible = p }
 
-module _ (s : Sheet) (steps : List ℕ) (k : ℕ) where
-  -- the step at k
-  pub step_next : k < length steps → Possible s (drop k steps) → Next s (drop k steps) (get_or steps k 0) (get_or steps (k + 1) 0) (drop (k + 2) steps)
-  step_next h p = rw (get_or-drop k steps 0 0, get_or-drop k steps 1 0, drop-drop 2 k steps, add-zero k) at (first p (omega (arith, length-drop k steps)))
-
-  -- both its bytes are there
-  pub step_inside : {d e : ℕ} {rest : List ℕ} → Next s (drop k steps) d e rest → k + 1 < length steps
-  step_inside n = omega (arith, ap length n.is, length-drop k steps)
+-- the next are these two bytes
+pub step_next : (s : Sheet) (step : List ℕ) {due rest : List ℕ} → length step ≡ 2 → due ≡ step ++ rest → Possible s due → Next s due (get_or step 0 0) (get_or step 1 0) rest
+step_next s [] two is p = absurd (omega arith)
+step_next s (d ∷ []) two is p = absurd (omega arith)
+step_next s (d ∷ e ∷ []) two is p = rw is (first (rw is at p))
+step_next s (d ∷ e ∷ x ∷ step) two is p = absurd (omega arith)
 
 module _ (s : Sheet) (c : List ℕ) (v : Vertex) where
   -- its line, and those after it
@@ -42,10 +33,14 @@ module _ (s : Sheet) (c : List ℕ) (v : Vertex) where
   after_next n = rw n.is
 
   -- no step is left
-  pub steps_end : (steps : List ℕ) (k : ℕ) → length steps ≤ k → steps_text s c v (drop k steps) ≡ []
+  pub steps_end : (due : List ℕ) → length due < 2 → steps_text s c v due ≡ []
   unfolding steps_text
-  steps_end steps k h = rw (drop_of_length-le steps {i = k} h)
+  steps_end [] h = refl
+  steps_end (d ∷ []) h = refl
+  steps_end (d ∷ e ∷ due) h = absurd (omega arith)
 
-  pub after_end : (steps : List ℕ) (k : ℕ) → length steps ≤ k → after s c v (drop k steps) ≡ v
+  pub after_end : (due : List ℕ) → length due < 2 → after s c v due ≡ v
   unfolding after
-  after_end steps k h = rw (drop_of_length-le steps {i = k} h)
+  after_end [] h = refl
+  after_end (d ∷ []) h = refl
+  after_end (d ∷ e ∷ due) h = absurd (omega arith)

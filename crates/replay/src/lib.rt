@@ -5,7 +5,7 @@ ghost use Rattle.std.specs.Prelude.{◌≡◌, ◌++◌, ◌+◌, ◌*◌, ◌^�
 ghost use Rattle.model.specs.Choice.{chosen, IsTables};
 ghost use Rattle.architecture.specs.Struct.{IsProper as IsProperArchitecture, architecture_of};
 ghost use Rattle.sheet.specs.Struct.{sheet_of, IsProper};
-ghost use Rattle.composition.specs.Struct.{numbers as numbersOf, IsState};
+ghost use Rattle.composition.specs.Struct.{numbers as numbers_of, IsState};
 ghost use Rattle.append.specs.Appends.{Appends};
 ghost use Rattle.template.specs.Holds.{Holds};
 ghost use Rattle.template.specs.Template.{filled};
@@ -13,7 +13,7 @@ ghost use Rattle.text.specs.Text.{fields};
 ghost use Rattle.replay.specs.Run as spec;
 ghost use Rattle.replay.specs.Struct.{choice_in, vertex_at, vertex_of};
 
-use append::put_bytes;
+use append::put_all;
 use architecture::Architecture;
 use composition::Composed;
 use model::AutomatonState;
@@ -30,15 +30,13 @@ struct Progress {
 
 // The state of each process: answers the index behind them.
 fn put_states(text: &mut [u8], start: usize, processes: usize, state: Composed) -> usize
-    requires processes_bound { (processes ≤ 4) × (length (numbersOf state.states) ≡ 4) }
-    requires states_in_bounds { start + length (fields (take processes (numbersOf state.states))) ≤ length text.old }
-    ensures { Appends text.old start (fields (take processes (numbersOf state.states))) result text.new }
+    requires processes_bound { (processes ≤ 4) × (length (numbers_of state.states) ≡ 4) }
+    requires states_in_bounds { start + length (fields (take processes (numbers_of state.states))) ≤ length text.old }
+    ensures { Appends text.old start (fields (take processes (numbers_of state.states))) result text.new }
 {
     let mut at = start;
-    let mut i: usize = 0;
-    while i < processes {
+    for i in 0..processes {
         at = text::put_field(text, at, state.process_state(i));
-        i += 1;
     }
     at
 }
@@ -52,13 +50,13 @@ pub fn put_with_states(
     processes: usize,
     state: Composed,
 ) -> usize
-    requires processes_bound { (processes ≤ 4) × (length (numbersOf state.states) ≡ 4) }
-    requires states_in_bounds { at + length (spec.with_states template.now numbers.now (take processes (numbersOf state.states))) ≤ length text.old }
-    ensures { Appends text.old at (spec.with_states template.now numbers.now (take processes (numbersOf state.states))) result text.new }
+    requires processes_bound { (processes ≤ 4) × (length (numbers_of state.states) ≡ 4) }
+    requires states_in_bounds { at + length (spec.with_states template.now numbers.now (take processes (numbers_of state.states))) ≤ length text.old }
+    ensures { Appends text.old at (spec.with_states template.now numbers.now (take processes (numbers_of state.states))) result text.new }
 {
     let after_template = put_filled(text, at, template, numbers);
     let after_states = put_states(text, after_template, processes, state);
-    put_bytes(text, after_states, b"\n")
+    put_all(text, after_states, b"\n")
 }
 
 // A vertex: answers the index behind it.
@@ -103,17 +101,11 @@ fn put_line(
     ensures appends { Appends text.old run.at
         (filled template.now numbers.now ++ spec.vertex_text (architecture_of a) (chosen (architecture_of a) tables.now) (vertex_of a run))
         result.at text.new }
-    ensures automaton_value { (result.automaton ≡ run.automaton) × (result.state ≡ run.state) }
+    ensures vertex_stays { (result.automaton ≡ run.automaton) × (result.state ≡ run.state) }
 {
-    let automaton = run.automaton;
-    let state = run.state;
     let after_template = put_filled(text, run.at, template, numbers);
-    let at = put_vertex(text, after_template, a, tables, automaton, state);
-    Progress {
-        at,
-        automaton,
-        state,
-    }
+    let at = put_vertex(text, after_template, a, tables, run.automaton, run.state);
+    Progress { at, ..run }
 }
 
 // A step along the edge of that number, and the vertex behind it.
@@ -133,8 +125,8 @@ fn put_step(
     ensures appends { Appends text.old from.at
         (spec.step_text (sheet_of sheet) (choice_in sheet tables.now) (vertex_of sheet.architecture from) direction edge)
         result.at text.new }
-    ensures result_value { vertex_of sheet.architecture result ≡ spec.onward (sheet_of sheet) (choice_in sheet tables.now) (vertex_of sheet.architecture from) direction edge }
-    ensures state_2 { IsState sheet.architecture result.state }
+    ensures reaches { vertex_of sheet.architecture result ≡ spec.onward (sheet_of sheet) (choice_in sheet tables.now) (vertex_of sheet.architecture from) direction edge }
+    ensures new_state { IsState sheet.architecture result.state }
 {
     let a = sheet.architecture;
     let automaton = sheet.automaton;
@@ -172,14 +164,12 @@ fn put_steps(
     ensures appends { Appends text.old start.at
         (spec.steps_text (sheet_of sheet) (choice_in sheet tables.now) (vertex_of sheet.architecture start) steps.now)
         result.at text.new }
-    ensures result_value { vertex_of sheet.architecture result ≡ spec.after (sheet_of sheet) (choice_in sheet tables.now) (vertex_of sheet.architecture start) steps.now }
-    ensures state_2 { IsState sheet.architecture result.state }
+    ensures reaches { vertex_of sheet.architecture result ≡ spec.after (sheet_of sheet) (choice_in sheet tables.now) (vertex_of sheet.architecture start) steps.now }
+    ensures new_state { IsState sheet.architecture result.state }
 {
     let mut run = start;
-    let mut k: usize = 0;
-    while k < steps.len() {
-        run = put_step(text, run, sheet, tables, steps[k], steps[k + 1]);
-        k += 2;
+    for step in steps.chunks_exact(2) {
+        run = put_step(text, run, sheet, tables, step[0], step[1]);
     }
     run
 }
@@ -190,7 +180,7 @@ fn put_opening(text: &mut [u8], sheet: Sheet, tables: &[u8], stem: usize, cycle:
     requires tables { IsTables (architecture_of sheet.architecture) (choice_in sheet tables.now) }
     requires cycle_in_bounds { length (spec.opening_text (sheet_of sheet) (choice_in sheet tables.now) stem cycle) ≤ length text.old }
     ensures appends { Appends text.old 0 (spec.opening_text (sheet_of sheet) (choice_in sheet tables.now) stem cycle) result.at text.new }
-    ensures result_value { vertex_of sheet.architecture result ≡ spec.start_of (sheet_of sheet) }
+    ensures reaches { vertex_of sheet.architecture result ≡ spec.start_of (sheet_of sheet) }
     ensures state { IsState sheet.architecture result.state }
 {
     let a = sheet.architecture;
@@ -215,16 +205,10 @@ fn put_opening(text: &mut [u8], sheet: Sheet, tables: &[u8], stem: usize, cycle:
 fn put_round(text: &mut [u8], run: Progress) -> Progress
     requires { run.at + length spec.round_text ≤ length text.old }
     ensures appends { Appends text.old run.at spec.round_text result.at text.new }
-    ensures automaton_value { (result.automaton ≡ run.automaton) × (result.state ≡ run.state) }
+    ensures vertex_stays { (result.automaton ≡ run.automaton) × (result.state ≡ run.state) }
 {
-    let automaton = run.automaton;
-    let state = run.state;
-    let at = put_bytes(text, run.at, b"round\n");
-    Progress {
-        at,
-        automaton,
-        state,
-    }
+    let at = put_all(text, run.at, b"round\n");
+    Progress { at, ..run }
 }
 
 // The run at the front of the path: answers the index behind its text.

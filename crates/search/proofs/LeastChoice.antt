@@ -1,14 +1,14 @@
 -- The least values: entry after entry of a choice that keeps the sheet gets its least value, and all together are those of the first choice.
 -- A follower has no choice of its own: its leader's value, which stands before it, decides.
-use mathlib.Core.Path.{◌≡◌, refl, sym, ap, ◌∙◌}
+use mathlib.Core.Path.{◌≡◌, refl, sym, ◌∙◌}
 use mathlib.Core.Bool.{true}
 use mathlib.Core.List.{List}
 use mathlib.Core.Option.{none, some}
 use Prim.Native.Nat.{ℕ, ◌+◌, ◌<◌, ◌≤◌}
 use native.Mathlib.Decide.{ℕ_discrete, dec_lt}
 use native.Mathlib.Omega.{arith}
-use lib.ListN.{length, get_or, replicate, length-set, length-replicate, get_or-replicate}
-use lib.Seq.{get_or-set_same, get_or-set_other, length-take-le}
+use lib.ListN.{length, get_or, replicate, length-replicate, get_or-replicate}
+use lib.Seq.{length-take-le}
 use Rattle.model.specs.Sheet.{Architecture, Sheet, ProperArchitecture, ProperSheet}
 use Rattle.model.specs.Choice.{next, entries, may, entry_at, packed_at, IsTables, IsChoice, chosen}
 use Rattle.model.specs.Computed.{loops, keeps, first_choice}
@@ -20,7 +20,7 @@ use Rattle.ties.proofs.Entries.{ties_are, entry_leaders_long, leader_low, leader
 use Rattle.ties.proofs.Groups.{fits_places, value_zero, zeros_tied, group_own, begin_agrees, follower_agrees}
 use Rattle.exploration.specs.Prepared.{Kinds, kind_at}
 use Rattle.exploration.specs.PartialChoice.{Agrees}
-use Rattle.search.specs.Choices.{Chains, Grouped, Ready, Witness, Led, Begun, Alike, Lowest, Least}
+use Rattle.search.specs.Choices.{Chains, Grouped, Ready, Witness, Begun, Alike, Lowest, Least}
 use Rattle.search.specs.Answers.{NoChoice, Found}
 use Rattle.search.proofs.OneGroup.{Trying, kind_at_lem, may_at, chosen_at, leader_word, Opened, Put, Shut, put_at, put_other, shut_leader, shut_other, agrees_narrower}
 
@@ -41,47 +41,6 @@ begun_none n i groups tables C h l = record {
   settled = λ k g f. (refl, get_or-replicate 272 k 0 0 (omega (arith, C.few)));
   left = λ k g f. absurd (omega (arith, C.low k (omega arith)));
 }
-
--- one entry more
-module _ (k i : ℕ) (groups tables values unset newValues newUnset : List ℕ) (L : Led k (get_or groups k 0) i values unset newValues newUnset) (small : k < 272) where
-  pub begun_more : Untouched k tables values unset → Begun k groups tables i values unset → Begun (k + 1) groups tables i newValues newUnset
-  begun_more U b = elim (dec_lt (get_or groups k 0) i) [
-    | yes f ↦
-        let same = L.kept f in
-        rw (same.0, same.1) record {
-          values_long = b.values_long;
-          unset_long = b.unset_long;
-          settled = λ j h g. elim (ℕ_discrete j k) [ yes e ↦ (U.values_same j (omega arith), U.settled j (omega arith) (omega arith)) | no ne ↦ b.settled j (omega arith) g ];
-          left = λ j h g. elim (ℕ_discrete j k) [ yes e ↦ absurd (omega (arith, ap (λ (x : ℕ). get_or groups x 0) e)) | no ne ↦ b.left j (omega arith) g ];
-        }
-    | no f ↦
-        let same = L.opened (omega arith) in
-        rw (same.0, same.1) record {
-          values_long = simp length-set b.values_long;
-          unset_long = simp length-set b.unset_long;
-          settled = λ j h g. elim (ℕ_discrete j k) [
-            | yes e ↦ absurd (omega (arith, ap (λ (x : ℕ). get_or groups x 0) e))
-            | no ne ↦ let r = b.settled j (omega arith) g in (get_or-set_other values k j 0 0 ne ∙ r.0, get_or-set_other unset k j 1 0 ne ∙ r.1)
-          ];
-          left = λ j h g. elim (ℕ_discrete j k) [
-            | yes e ↦ rw e (get_or-set_same values k 0 0 (omega (arith, b.values_long)), get_or-set_same unset k 1 0 (omega (arith, b.unset_long)))
-            | no ne ↦ let r = b.left j (omega arith) g in (get_or-set_other values k j 0 0 ne ∙ r.0, get_or-set_other unset k j 1 0 ne ∙ r.1)
-          ];
-        }
-  ]
-
-  pub untouched_more : Untouched k tables values unset → Untouched (k + 1) tables newValues newUnset
-  untouched_more U = elim (dec_lt (get_or groups k 0) i) [
-    | yes f ↦
-        let same = L.kept f in
-        rw (same.0, same.1) record { values_same = λ j h. U.values_same j (omega arith); settled = λ j h l. U.settled j (omega arith) l }
-    | no f ↦
-        let same = L.opened (omega arith) in
-        rw (same.0, same.1) record {
-          values_same = λ j h. get_or-set_other values k j 0 0 (λ e. omega arith) ∙ U.values_same j (omega arith);
-          settled = λ j h l. get_or-set_other unset k j 1 0 (λ e. omega arith) ∙ U.settled j (omega arith) l;
-        }
-  ]
 
 -- of the entries of a choice: where the leader is before i the tables have the values of a choice d
 pub record Beginning (a : Architecture) (groups tables : List ℕ) (i : ℕ) (values unset d : List ℕ) : Type 0 where
@@ -205,7 +164,7 @@ module _ {s : Sheet} {fixed groups : List ℕ} {i : ℕ} {tables : List ℕ} (S 
 
   lowest : (new : List ℕ) (v : ℕ) → Alike i new tables → get_or new i 0 ≤ v → Lower v → Lowest s i new
   lowest new v same low T c f al l =
-      T.tried (get_or c i 0) (omega arith) (may_at s.architecture fixed S.kinds_are i S.inside c f.tables) c f (λ k h. al k h ∙ same k h) refl
+      T (get_or c i 0) (omega arith) (may_at s.architecture fixed S.kinds_are i S.inside c f.tables) c f (λ k h. al k h ∙ same k h) refl
 
   pub least_same : (v : ℕ) → get_or tables i 0 ≤ v → Lower v → Least s i tables tables
   least_same v low T = record { witness = S.witness; same = λ k h. refl; lowest = lowest tables v (λ k h. refl) low T }
@@ -260,9 +219,6 @@ module _ {s : Sheet} {fixed groups : List ℕ} {i : ℕ} {tables : List ℕ} (S 
 pub record Leading (s : Sheet) (i : ℕ) (tables : List ℕ) : Type 0 where
   pub witness : Witness s tables
   pub lowest : (j : ℕ) → j < i → Lowest s j tables
-
-pub leading_none : (s : Sheet) (tables : List ℕ) → Witness s tables → Leading s 0 tables
-leading_none s tables W = record { witness = W; lowest = λ j h. absurd (omega arith) }
 
 pub leading_more : (s : Sheet) (i : ℕ) (old new : List ℕ) → Leading s i old → Least s i old new → Leading s (i + 1) new
 leading_more s i old new P L = record {

@@ -1,6 +1,6 @@
 -- One group: the values of its leader are tried one after the other, and with each of them the whole group, which was open, is settled.
 use mathlib.Core.Path.{◌≡◌, refl, sym, ap, ◌∙◌, subst}
-use mathlib.Core.Bool.{true}
+use mathlib.Core.Bool.{true, false, true≢false}
 use mathlib.Core.List.{List}
 use Prim.Native.Nat.{ℕ, zero, suc, ◌+◌, ◌<◌, ◌≤◌}
 use native.Mathlib.Decide.{ℕ_discrete}
@@ -23,26 +23,20 @@ use Rattle.ties.proofs.Groups.{settled_follows, group_tied, group_zero, complete
 use Rattle.exploration.specs.Prepared.{Kinds, kind_at}
 use Rattle.exploration.specs.PartialChoice.{Agrees}
 use Rattle.exploration.proofs.LabelTargets.{choice_byte}
-use Rattle.search.specs.Choices.{Grouped, group_at, Ready, opens, NextValue}
+use Rattle.search.specs.Choices.{Grouped, group_at, Ready, opens}
 use Rattle.search.specs.Answers.{NoChoice, Found}
 
 -- ---- one value after the other
--- v is the next value to try, or 256: P holds for each lower one that the entry may have
-pub record Trying (e : Entry) (P : ℕ → Type 0) (v : ℕ) : Type 0 where
-  pub inside : v ≤ 256
-  pub may_be : v < 256 → may e v ≡ true
-  pub tried : (u : ℕ) → u < v → may e u ≡ true → P u
+-- P holds for each value below v that the entry may have
+abbrev pub Trying : Entry → (ℕ → Type 0) → ℕ → Type 0
+Trying e P v = (u : ℕ) → u < v → may e u ≡ true → P u
 
-module _ (e : Entry) (P : ℕ → Type 0) where
-  pub trying_none : (r : ℕ) → NextValue e 0 r → Trying e P r
-  trying_none r N = record { inside = N.inside; may_be = N.may_be; tried = λ u h m. absurd (omega (arith, N.skipped u h m)) }
+module _ (e : Entry) (P : ℕ → Type 0) (v : ℕ) (T : Trying e P v) where
+  pub trying_more : P v → Trying e P (v + 1)
+  trying_more here = below_more (λ u. may e u ≡ true → P u) v T (λ m. here)
 
-  pub trying_more : (v r : ℕ) → NextValue e (v + 1) r → Trying e P v → P v → Trying e P r
-  trying_more v r N T here = record {
-    inside = N.inside;
-    may_be = N.may_be;
-    tried = λ u h m. below_more (λ u. may e u ≡ true → P u) v T.tried (λ _. here) u (N.skipped u h m) m;
-  }
+  pub trying_not : may e v ≡ false → Trying e P (v + 1)
+  trying_not f = below_more (λ u. may e u ≡ true → P u) v T (λ m. absurd (true≢false (sym m ∙ f)))
 
 -- ---- the entries of a sheet
 module _ (a : Architecture) (fixed : List ℕ) (K : Kinds a fixed) (k : ℕ) (hk : k < length (entries a)) where
@@ -238,4 +232,4 @@ pub all_tried : (s : Sheet) {values unset fixed groups : List ℕ} {l : ℕ} (O 
 all_tried s {fixed = fixed} {l = l} O good v h T c choice A =
     let u = get_or c l 0 in
     let small = choice_byte (entries_small s.architecture good.architecture) choice.tables l in
-    T.tried u (omega (arith, small)) (may_at s.architecture fixed O.kinds_are l O.inside c choice.tables) c choice (agrees_narrower O u c choice refl A)
+    T u (omega (arith, small)) (may_at s.architecture fixed O.kinds_are l O.inside c choice.tables) c choice (agrees_narrower O u c choice refl A)

@@ -1,7 +1,7 @@
--- What the search's contracts cite: groups, partial choices in order, witnesses, and the values that an entry may have. These are definitions.
+-- What the search's contracts cite: groups, partial choices in order, and witnesses. These are definitions.
 use Rattle.std.specs.Prelude.{◌≡◌, true, false, List, ℕ, zero, suc, ◌+◌, ◌<◌, ◌≤◌, length, get_or, set, take}
 use Rattle.model.specs.Sheet.{Architecture, Sheet}
-use Rattle.model.specs.Choice.{Entry, entries, may, packed_value, IsChoice, chosen}
+use Rattle.model.specs.Choice.{entries, packed_value, IsChoice, chosen}
 use Rattle.model.specs.Computed.{loops}
 use Rattle.ties.specs.Leaders.{entry_leaders}
 use Rattle.ties.specs.Unpack.{unpacked_value}
@@ -40,13 +40,6 @@ unfoldable pub opens : List ℕ → ℕ → ℕ
 opens unset zero = 0
 opens unset (suc n) = opens unset n + get_or unset n 0
 
--- r is the least value from `from` on that the entry may have, or 256: one that it may have, and that is below r, is below `from`
-pub record NextValue (e : Entry) (from r : ℕ) : Type 0 where
-  pub above : from ≤ r
-  pub inside : r ≤ 256
-  pub may_be : r < 256 → may e r ≡ true
-  pub skipped : (u : ℕ) → u < r → may e u ≡ true → u < from
-
 -- a choice that keeps the sheet is at the front of the tables
 pub record Witness (s : Sheet) (tables : List ℕ) : Type 0 where
   pub long : length tables ≡ 272
@@ -54,9 +47,9 @@ pub record Witness (s : Sheet) (tables : List ℕ) : Type 0 where
   pub keeps : loops s (chosen s.architecture tables) ≡ false
 
 -- entry k is opened where its leader is not before i, and otherwise left
-pub record Led (k leader i : ℕ) (values unset newValues newUnset : List ℕ) : Type 0 where
-  pub opened : i ≤ leader → (newValues ≡ set values k 0) × (newUnset ≡ set unset k 1)
-  pub kept : leader < i → (newValues ≡ values) × (newUnset ≡ unset)
+pub record Led (k leader i : ℕ) (values unset new_values new_unset : List ℕ) : Type 0 where
+  pub opened : i ≤ leader → (new_values ≡ set values k 0) × (new_unset ≡ set unset k 1)
+  pub kept : leader < i → (new_values ≡ values) × (new_unset ≡ unset)
 
 -- of the first n entries, those whose leader is before i are settled as in the tables, the others are open
 pub record Begun (n : ℕ) (leaders tables : List ℕ) (i : ℕ) (values unset : List ℕ) : Type 0 where

@@ -5,22 +5,16 @@ ghost use Rattle.std.specs.Prelude.{◌≡◌, ◌+◌, ◌<◌, ◌≤◌, leng
 ghost use Rattle.model.specs.Choice.{entries as entries_of};
 ghost use Rattle.architecture.specs.Struct.{IsProper, architecture_of};
 ghost use Rattle.sheet.specs.Struct.{sheet_of};
-ghost use Rattle.choice.specs.Kinds.{kind_of};
 ghost use Rattle.exploration.specs.Prepared.{Prepared};
 ghost use Rattle.exploration.specs.Answers.{Work};
 ghost use Rattle.ties.specs.Groups.{set_group};
-ghost use Rattle.search.specs.Choices.{Chains, Grouped, group_at, Ready, opens, NextValue, Witness, Led, Begun, Least};
+ghost use Rattle.search.specs.Choices.{Chains, Grouped, group_at, Ready, opens, Witness, Led, Begun, Least};
 ghost use Rattle.search.specs.Answers.{Finds, Leads};
 
 use architecture::Architecture;
 use exploration::Explored;
+use model::Found;
 use sheet::Sheet;
-
-#[derive(Clone, Copy)]
-pub enum Searched {
-    Tables,
-    Nothing,
-}
 
 // The leader of each of n entries, and from 272 on the next entry with that leader, or n.
 pub fn put_groups(groups: &mut [u16], a: Architecture, n: usize)
@@ -32,23 +26,9 @@ pub fn put_groups(groups: &mut [u16], a: Architecture, n: usize)
     ties::fill_leaders(&mut leaders, a);
     let mut followers = [0u16; 272];
     ties::fill_followers(&mut followers, &leaders, n);
-    let after_leaders = append::words(groups, 0, &leaders);
-    append::words(groups, after_leaders, &followers);
-}
-
-// The least value from `from` on that the entry may have, or 256.
-fn next_value(kind: u16, from: usize) -> usize
-    requires { from ≤ 256 }
-    ensures { NextValue (kind_of kind) from result }
-{
-    let mut v = from;
-    while v < 256 {
-        if choice::may_be(kind, v as u8) {
-            return v;
-        }
-        v += 1;
-    }
-    256
+    let (front, back) = groups.split_at_mut(272);
+    front.copy_from_slice(&leaders);
+    back.copy_from_slice(&followers);
 }
 
 // Every entry of l's group takes the value that follows from v at l, and this mark.
@@ -69,6 +49,7 @@ fn settle_group(
     ensures unset_after { unset.new ≡ set_group (λ _. mark) (take n groups.now) l unset.old }
 {
     let leader = fixed[6144 + l];
+    // while: along the chain, whose links are in the table, and not over a range.
     let mut k = l;
     while k < n {
         values[k] = ties::group_value(leader, fixed[6144 + k], v);
@@ -91,7 +72,7 @@ pub fn search(
     waiting: &mut [u8; 4096],
     targets: &mut [u16; 4096],
     steps: &mut [u16; 4096],
-) -> Searched
+) -> Found
     requires prepared { Prepared sheet fixed.now }
     requires grouped { Grouped (architecture_of sheet.architecture) groups.now × (n ≡ length (entries_of (architecture_of sheet.architecture))) }
     requires ready { Ready (architecture_of sheet.architecture) values.old unset.old }
@@ -104,16 +85,18 @@ pub fn search(
         numbers, stack, waiting, targets, steps, sheet, fixed, values, unset,
     );
     match explored {
-        Explored::Loop => Searched::Nothing,
-        Explored::Keeps => Searched::Tables,
+        Explored::Loop => Found::Nothing,
+        Explored::Keeps => Found::Tables,
         Explored::Needs(k) => {
             if left == 0 {
-                return Searched::Nothing;
+                return Found::Nothing;
             }
             let l = groups[k] as usize;
             let kind = fixed[6144 + l];
-            let mut v = next_value(kind, 0);
-            while v < 256 {
+            for v in 0..256usize {
+                if !choice::may_be(kind, v as u8) {
+                    continue;
+                }
                 settle_group(values, unset, fixed, groups, n, l, v as u8, 0);
                 let found = search(
                     values,
@@ -130,13 +113,12 @@ pub fn search(
                     steps,
                 );
                 match found {
-                    Searched::Tables => return Searched::Tables,
-                    Searched::Nothing => {}
+                    Found::Tables => return Found::Tables,
+                    Found::Nothing => {}
                 }
-                v = next_value(kind, v + 1);
             }
             settle_group(values, unset, fixed, groups, n, l, 0, 1);
-            Searched::Nothing
+            Found::Nothing
         }
     }
 }
@@ -146,11 +128,10 @@ fn open_led(values: &mut [u8; 272], unset: &mut [u8; 272], k: usize, leader: usi
     requires { k < 272 }
     ensures { Led k leader i values.old unset.old values.new unset.new }
 {
-    if leader < i {
-        return;
+    if i <= leader {
+        values[k] = 0;
+        unset[k] = 1;
     }
-    values[k] = 0;
-    unset[k] = 1;
 }
 
 // Of n entries, those whose leader is before i are settled as in the tables, the others are open. No leader is behind its entry.
@@ -168,18 +149,9 @@ fn begin(
 {
     *values = *tables;
     *unset = [0u8; 272];
-    let mut k = i;
-    while k < n {
+    for k in i..n {
         open_led(values, unset, k, groups[k] as usize, i);
-        k += 1;
     }
-}
-
-// x as a usize: what is read through a `&[u8; N]` has no bound in its reader's proof, and gets one here.
-fn wide(x: u8) -> usize
-    ensures { (result ≡ x) × (result < 256) }
-{
-    x as usize
 }
 
 // Entry i of the witness gets the least value with which a choice still keeps the sheet; the entries before it stay. The leader's value decides a follower's.
@@ -209,13 +181,14 @@ fn settle(
         return;
     }
     let kind = fixed[6144 + i];
-    let most = wide(witness[i]);
-    let mut v = next_value(kind, 0);
-    while v < most {
+    for v in 0..witness[i] {
+        if !choice::may_be(kind, v) {
+            continue;
+        }
         let mut values = [0u8; 272];
         let mut unset = [0u8; 272];
         begin(&mut values, &mut unset, witness, groups, i, n);
-        settle_group(&mut values, &mut unset, fixed, groups, n, i, v as u8, 0);
+        settle_group(&mut values, &mut unset, fixed, groups, n, i, v, 0);
         let found = search(
             &mut values,
             &mut unset,
@@ -231,13 +204,12 @@ fn settle(
             steps,
         );
         match found {
-            Searched::Tables => {
+            Found::Tables => {
                 *witness = values;
                 return;
             }
-            Searched::Nothing => {}
+            Found::Nothing => {}
         }
-        v = next_value(kind, v + 1);
     }
 }
 
@@ -253,7 +225,7 @@ pub fn first(
     waiting: &mut [u8; 4096],
     targets: &mut [u16; 4096],
     steps: &mut [u16; 4096],
-) -> Searched
+) -> Found
     requires prepared { Prepared sheet fixed.now }
     requires grouped { Grouped (architecture_of sheet.architecture) groups.now × (n ≡ length (entries_of (architecture_of sheet.architecture))) }
     requires witness_len { length witness.old ≡ 272 }
@@ -278,16 +250,14 @@ pub fn first(
         steps,
     );
     match found {
-        Searched::Nothing => return Searched::Nothing,
-        Searched::Tables => {}
+        Found::Nothing => return Found::Nothing,
+        Found::Tables => {}
     }
     *witness = values;
-    let mut i: usize = 0;
-    while i < n {
+    for i in 0..n {
         settle(
             witness, i, n, sheet, fixed, groups, numbers, stack, waiting, targets, steps,
         );
-        i += 1;
     }
-    Searched::Tables
+    Found::Tables
 }

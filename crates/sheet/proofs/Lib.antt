@@ -1,5 +1,6 @@
 -- the laws that the proofs of the functions cite
 pub mod RefusalTests
+pub mod Marks
 pub mod OwnedOutputs
 pub mod ComposedStates
 pub mod OneProcessMore

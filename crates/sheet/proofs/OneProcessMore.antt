@@ -1,31 +1,25 @@
 -- What is known of a front: with no process yet, with one process more, and with one tie more.
 use mathlib.Core.Path.{◌≡◌, sym, ap, ap₂, subst, ◌∙◌}
-use mathlib.Core.Bool.{false}
+use mathlib.Core.Bool.{Bool, true, false, not}
 use mathlib.Core.List.{List, [], ◌∷◌, ◌++◌}
-use Prim.Native.Nat.{ℕ, ◌+◌, ◌*◌, ◌^◌, ◌<◌, ◌≤◌}
+use Prim.Native.Nat.{ℕ, ◌*◌, ◌^◌, ◌<◌, ◌≤◌}
 use native.Mathlib.Omega.{arith}
-use lib.Bits.{bit_or}
-use lib.ListN.{length, length-append}
+use lib.Dec.{eqb}
+use lib.Bits.{bit_and, bit_or}
+use lib.ListN.{length}
+use borrow.Author.Tests.{eq-eqb, ne_eqb}
+use Rattle.model.specs.Mask.{share}
 use Rattle.model.specs.Sheet.{Process, Tie, with_process, with_tie, outputs_of, composed_states, ProperFront}
 use Rattle.model.specs.Sheet as model
-use Rattle.model.specs.Reading.{ar_fault, pr_fault, prompt_fault, tie_fault, process_at}
+use Rattle.model.specs.Reading.{ar_fault, field_fault, pr_fault, prompt_fault, tie_fault, process_at}
 use Rattle.model.proofs.ProperSheet.{opening_proper, process_more, none_of_PR_at, tie_more}
 use Rattle.model.proofs.PromptInputs.{outputs_more}
-use Rattle.architecture.specs.declared.Architecture.{Architecture}
 use Rattle.architecture.specs.Struct.{architecture_of, processes_in, Arrays}
 use Rattle.architecture.proofs.ProcessesOfArrays.{count_is, ties_count}
 use Rattle.sheet.specs.declared.FrontRead.{FrontRead}
 use Rattle.sheet.specs.Struct.{FrontKnown}
+use Rattle.sheet.proofs.ReadingOn.{mask_decides}
 use Rattle.sheet.proofs.ComposedStates.{composed_more, composed_few}
-
-pub count_more : (x y : Architecture) (p : Process) → architecture_of y ≡ with_process (architecture_of x) p → y.processes ≡ x.processes + 1
-unfolding with_process
-count_more x y p e =
-    omega (arith, count_is x, count_is y, ap (λ (a : model.Architecture). length a.processes) e, length-append (architecture_of x).processes (p ∷ []))
-
-pub ties_more : (x y : Architecture) (t : Tie) → architecture_of y ≡ with_tie (architecture_of x) t → y.ties ≡ x.ties + 1
-unfolding with_tie
-ties_more x y t e = omega (arith, ties_count x, ties_count y, ap (λ (a : model.Architecture). length a.ties) e, length-append (architecture_of x).ties (t ∷ []))
 
 -- ---- no process yet
 pub known_opened : (b : List ℕ) (f : FrontRead) (a : model.Architecture) → a.processes ≡ [] → a.ties ≡ [] → ar_fault a ≡ false → architecture_of f.architecture ≡ a → Arrays f.architecture
@@ -49,6 +43,25 @@ pub process_grown : {b : List ℕ} {f : FrontRead} → FrontKnown b f → f.arch
 unfolding architecture_of
 process_grown {b} {f} z few i sound prompts =
     process_more (architecture_of f.architecture) (process_at b i) z.proper (omega (arith, count_is f.architecture)) sound prompts (none_of_PR_at b i)
+
+-- q is p as it was read, and its own fields are in order: the mask of all outputs decides
+module _ {b : List ℕ} {f : FrontRead} (z : FrontKnown b f) {q p : Process} (is : q ≡ p) (sound : field_fault f.architecture.variables f.architecture.environment q ≡ false) where
+  outputs_decide : pr_fault (architecture_of f.architecture) p ≡ not (eqb (bit_and q.outputs f.owned) 0)
+  unfolding architecture_of share
+  outputs_decide =
+      mask_decides (architecture_of f.architecture) p (ap (field_fault f.architecture.variables f.architecture.environment) (sym is) ∙ sound)
+      ∙ ap₂ share (ap (λ (x : Process). x.outputs) (sym is)) (sym z.owned_is)
+
+  pub outputs_taken : (bit_and q.outputs f.owned ≡ 0 → ⊥) → pr_fault (architecture_of f.architecture) p ≡ true
+  outputs_taken h = outputs_decide ∙ ap not (ne_eqb _ _ h)
+
+  pub outputs_free : bit_and q.outputs f.owned ≡ 0 → pr_fault (architecture_of f.architecture) p ≡ false
+  outputs_free h = outputs_decide ∙ ap not (eq-eqb _ _ h)
+
+-- and so it does of the prompt inputs
+pub prompts_decide : {b : List ℕ} {f : FrontRead} → FrontKnown b f → {q p : Process} → q ≡ p → {fault : Bool} → ((lower : List Process) → f.owned ≡ outputs_of lower → fault ≡ prompt_fault lower q)
+    → prompt_fault (processes_in f.architecture) p ≡ fault
+prompts_decide {f = f} z is h = sym (h (processes_in f.architecture) z.owned_is ∙ ap (prompt_fault (processes_in f.architecture)) is)
 
 module _ {b : List ℕ} {f : FrontRead} (z : FrontKnown b f) (p : Process) (grown : ProperFront (with_process (architecture_of f.architecture) p)) where
   composed_next : f.total * p.bound ≡ composed_states f.architecture.environment (processes_in f.architecture ++ (p ∷ []))

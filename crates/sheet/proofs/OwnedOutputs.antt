@@ -2,7 +2,7 @@
 use mathlib.Core.Path.{◌≡◌, refl, sym, ap, ◌∙◌}
 use mathlib.Core.Bool.{Bool, true, false, ◌&&◌, ◌||◌, not}
 use mathlib.Core.List.{List, [], ◌∷◌}
-use Prim.Native.Nat.{ℕ, zero, suc, ◌+◌, ◌-◌, ◌/◌, ◌^◌, ◌<◌}
+use Prim.Native.Nat.{ℕ, zero, suc, ◌+◌, ◌-◌, ◌/◌, ◌^◌, ◌<◌, ◌≤◌}
 use native.Mathlib.Numerals.{add-one}
 use native.Mathlib.Nat.{one-mul, div-eq_of_lt, div-lt_iff_lt-mul}
 use native.Mathlib.Omega.{arith}
@@ -32,6 +32,11 @@ shifted_out m n = by (leb (2 ^ n) m) refl
 pub all_step : (p : ℕ → Bool) (i e : ℕ) → i < e → all p (from (e - i) i) ≡ (p i && all p (from (e - (i + 1)) (i + 1)))
 unfolding all from
 all_step p i e h = let n : e - i ≡ suc (e - (i + 1)) = omega arith in rw (n, add-one i)
+
+-- and none behind the last
+pub all_end : (p : ℕ → Bool) (i e : ℕ) → e ≤ i → all p (from (e - i) i) ≡ true
+unfolding all from
+all_end p i e h = let n : e - i ≡ 0 = omega arith in rw n
 
 -- ---- what a mask shares with a union
 -- a union is empty where both are

@@ -1,23 +1,22 @@
 -- Reading on behind edges that were read: one edge and then the rest, or EN, is the reading of the whole; and AU, behind which no edge was read yet.
 use mathlib.Core.Path.{◌≡◌, refl, sym, ap, ◌∙◌}
 use mathlib.Core.Bool.{Bool, true, false, ◌||◌, not}
+use mathlib.Core.Logic.{◌⊎◌, inl, inr}
 use mathlib.Core.List.{List, [], ◌∷◌, append_assoc, append-nil}
 use Prim.Native.Nat.{ℕ, zero, suc, ◌+◌, ◌-◌, ◌*◌, ◌<◌, ◌≤◌}
 use native.Mathlib.Omega.{arith}
-use lib.Dec.{eqb, ltb}
-use lib.ListN.{length, length-append}
-use borrow.Author.Tests.{ltb-false}
+use lib.Dec.{eqb}
+use lib.ListN.{length}
 use Rattle.model.specs.declared.Refusal.{Refusal}
 use Rattle.model.specs.declared.Refusal.TheVariants.{SheetTooShort, WrongMark, NoOwnerOrTooMany, BadEdge}
 use Rattle.model.specs.Mask.{if}
 use Rattle.model.specs.Sheet.{Architecture, Edge, Automaton, with_edge}
-use Rattle.model.specs.Reading.{Reading, refused, proper, refuse◌when◌else◌, ◌then◌, byte, short, marked, edge_marked, AU, EN, edge_at, all_fault, ed_fault}
+use Rattle.model.specs.Reading.{Reading, refused, proper, refuse◌when◌else◌, ◌then◌, byte, short, marked, edge_marked, AU, edge_at, all_fault, ed_fault}
 use Rattle.model.specs.Reading.{read_end, read_edge, read_edges, read_automaton}
-use Rattle.model.proofs.ProperSheet.{passes}
+use Rattle.model.proofs.Refusing.{then_refused, then_read}
 use Rattle.automaton.specs.declared.Automaton as Struct
 use Rattle.automaton.specs.Struct.{automaton_of, Arrays}
-use Rattle.automaton.proofs.Edges.{edges_many}
-use Rattle.sheet.specs.Steps.{edge_from, with_edges, behind, end_from, edges_from, states_from}
+use Rattle.sheet.specs.Steps.{edge_tested, with_edges, behind, edges_from, states_from}
 use Rattle.sheet.proofs.ReadingOn.{refuse_then}
 
 -- an edge before those that are read goes behind those of u
@@ -36,34 +35,20 @@ unfolding behind
 behind_refuse u r t m = refuse_then r t m (λ es. proper (with_edges u es))
 
 module _ (u : Automaton) (b : List ℕ) (i : ℕ) where
-  -- the tests at EN, in order
-  pub end_is : end_from u b i
-      ≡ (refuse SheetTooShort when short b i 2 else
-      refuse WrongMark when not (marked b i EN) else
-      refuse WrongMark when ltb (i + 2) (length b) else
-      proper u)
-  unfolding end_from read_end
-  end_is =
-      behind_refuse u SheetTooShort (short b i 2) _
-      ∙ ap (refuse◌when◌else◌ SheetTooShort (short b i 2))
-      (behind_refuse u WrongMark (not (marked b i EN)) _
-      ∙ ap (refuse◌when◌else◌ WrongMark (not (marked b i EN)))
-      (behind_refuse u WrongMark (ltb (i + 2) (length b)) _ ∙ ap (refuse◌when◌else◌ WrongMark (ltb (i + 2) (length b))) (behind_none u)))
-
   module _ (variables : ℕ) where
-    pub edges_none : (k : ℕ) → edge_marked b i ≡ false → edges_from k variables u b i ≡ end_from u b i
-    unfolding edges_from end_from read_edges if
+    pub edges_none : (k : ℕ) → edge_marked b i ≡ false → edges_from k variables u b i ≡ behind u (read_end b i)
+    unfolding edges_from read_edges if
     edges_none zero h = refl
     edges_none (suc k) h = rw h
 
-    pub edges_last : edges_from 0 variables u b i ≡ end_from u b i
-    unfolding edges_from end_from read_edges
+    pub edges_last : edges_from 0 variables u b i ≡ behind u (read_end b i)
+    unfolding edges_from read_edges
     edges_last = refl
 
     -- one edge, and then what follows it
-    edge_then : (rest : Reading (List Edge)) (f : Automaton → Reading Automaton) → behind (with_edge u (edge_at b i)) rest ≡ f (with_edge u (edge_at b i))
-        → behind u (read_edge variables u.states b i rest) ≡ (edge_from variables u b i then f)
-    unfolding edge_from read_edge ◌then◌
+    edge_then : (rest : Reading (List Edge)) (f : Edge → Reading Automaton) → behind (with_edge u (edge_at b i)) rest ≡ f (edge_at b i)
+        → behind u (read_edge variables u.states b i rest) ≡ (edge_tested variables u.states b i then f)
+    unfolding edge_tested read_edge ◌then◌
     edge_then rest f e =
         let fault : Bool = ed_fault variables u.states (edge_at b i) in
         behind_refuse u SheetTooShort (short b i 6) _
@@ -72,30 +57,61 @@ module _ (u : Automaton) (b : List ℕ) (i : ℕ) where
         ∙ sym (refuse_then SheetTooShort (short b i 6) _ f)
 
     pub edges_turn : (m n : ℕ) → n < m → edge_marked b i ≡ true
-        → edges_from (m - n) variables u b i ≡ (edge_from variables u b i then λ v. edges_from (m - (n + 1)) variables v b (i + 6))
+        → edges_from (m - n) variables u b i ≡ (edge_tested variables u.states b i then λ e. edges_from (m - (n + 1)) variables (with_edge u e) b (i + 6))
     unfolding edges_from read_edges if with_edge
     edges_turn m n l h =
         let e : m - n ≡ suc (m - (n + 1)) = omega arith in
-        rw (e, h) (edge_then (read_edges variables u.states (m - (n + 1)) b (i + 6)) (λ v. edges_from (m - (n + 1)) variables v b (i + 6)) refl)
+        rw (e, h) (edge_then (read_edges variables u.states (m - (n + 1)) b (i + 6)) (λ e. edges_from (m - (n + 1)) variables (with_edge u e) b (i + 6)) refl)
 
-    -- where no fault was found
-    pub edge_read : (v : Automaton) → edge_from variables u b i ≡ proper v → (with_edge u (edge_at b i) ≡ v) × (i + 6 ≤ length b)
-    unfolding edge_from short
-    edge_read v e =
-        let whole = passes SheetTooShort (short b i 6) _ e in
-        let sound = passes BadEdge (ed_fault variables u.states (edge_at b i)) _ whole.1 in
-        (cc sound.1, ltb-false _ _ whole.0)
-
--- one edge more
-pub edge_count : (x y : Struct.Automaton) (e : Edge) → automaton_of y ≡ with_edge (automaton_of x) e → y.edges ≡ x.edges + 1
-unfolding with_edge
-edge_count x y e h = omega (arith, edges_many x, edges_many y, ap (λ (u : Automaton). length u.edges) h, length-append (automaton_of x).edges (e ∷ []))
-
--- what the loop over the edges keeps: reading on from `at`, behind those of u, is reading from the start
-pub record EdgesRead (b : List ℕ) (start variables : ℕ) (first u : Struct.Automaton) (at : ℕ) : Type 0 where
+-- what the loop over the edges keeps, `count` of them read: reading on from `at`, behind those of u, is reading from the start
+pub record EdgesRead (b : List ℕ) (start variables count : ℕ) (first u : Struct.Automaton) (at : ℕ) : Type 0 where
   pub arrays : Arrays u
+  pub counted : u.edges ≡ count
   pub inside : at ≤ length b
-  pub rest : edges_from (64 - u.edges) variables (automaton_of u) b at ≡ edges_from 64 variables (automaton_of first) b start
+  pub rest : edges_from (64 - count) variables (automaton_of u) b at ≡ edges_from 64 variables (automaton_of first) b start
+
+module _ {b : List ℕ} {start variables count : ℕ} {first u : Struct.Automaton} {at : ℕ} (i : EdgesRead b start variables count first u at) where
+  abbrev here : Automaton
+  here = automaton_of u
+
+  abbrev all : Reading Automaton
+  all = edges_from 64 variables (automaton_of first) b start
+
+  -- no mark, or enough edges: EN is what is left
+  pub reads_end : (edge_marked b at ≡ false) ⊎ (64 ≤ count) → behind here (read_end b at) ≡ all
+  reads_end (inl h) = sym (edges_none here b at variables (64 - count) h) ∙ i.rest
+  reads_end (inr h) =
+      let none : 64 - count ≡ 0 = omega arith in
+      sym (ap (λ (k : ℕ). edges_from k variables here b at) none ∙ edges_last here b at variables) ∙ i.rest
+
+  module _ (over : (edge_marked b at ≡ false) ⊎ (64 ≤ count)) where
+    pub end_refused : (r : Refusal) → refused r ≡ read_end b at → refused r ≡ all
+    unfolding behind ◌then◌
+    end_refused r e = ap (behind here) e ∙ reads_end over
+
+    pub end_read : proper [] ≡ read_end b at → proper here ≡ all
+    end_read e = sym (behind_none here) ∙ ap (behind here) e ∙ reads_end over
+
+  -- behind an edge at a mark
+  abbrev rest : Edge → Reading Automaton
+  rest e = edges_from (64 - (count + 1)) variables (with_edge here e) b (at + 6)
+
+  module _ (room : count < 64) (h : edge_marked b at ≡ true) where
+    stepped : (edge_tested variables u.states b at then rest) ≡ all
+    unfolding automaton_of
+    stepped = sym (edges_turn here b at variables 64 count room h) ∙ i.rest
+
+    pub reads_refused : (r : Refusal) → refused r ≡ edge_tested variables u.states b at → refused r ≡ all
+    reads_refused r e = sym (then_refused rest (sym e)) ∙ stepped
+
+    pub reads_on : (v : Struct.Automaton) (x : Edge) → proper x ≡ edge_tested variables u.states b at → automaton_of v ≡ with_edge here x → Arrays v → v.edges ≡ count + 1 → at + 6 ≤ length b
+        → EdgesRead b start variables (count + 1) first v (at + 6)
+    reads_on v x e is arrays counted inside = record {
+      arrays = arrays;
+      counted = counted;
+      inside = inside;
+      rest = ap (λ (y : Automaton). edges_from (64 - (count + 1)) variables y b (at + 6)) is ∙ sym (then_read rest (sym e)) ∙ stepped;
+    }
 
 -- ---- the automaton
 -- with no edge before them, the edges that are read are all

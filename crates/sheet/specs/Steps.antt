@@ -1,8 +1,8 @@
 -- What the steps of the reader read: a record at i of the bytes b, or the records from i on, behind those that were read before.
 use Rattle.std.specs.Prelude.{List, [], ◌++◌, ℕ, ◌+◌, ◌*◌}
 use Rattle.model.specs.declared.Refusal.TheVariants.{SheetTooShort, BadAutomaton, BadEdge}
-use Rattle.model.specs.Sheet.{Architecture, Edge, Automaton, with_process, with_tie, with_edge}
-use Rattle.model.specs.Reading.{Reading, proper, refuse◌when◌else◌, ◌then◌, byte, short, au_fault, ed_fault, process_at, process_size, tie_at, edge_at, Front, read_process, read_tie, read_end, read_edges}
+use Rattle.model.specs.Sheet.{Architecture, Edge, Automaton, with_process, with_tie}
+use Rattle.model.specs.Reading.{Reading, proper, refuse◌when◌else◌, ◌then◌, byte, short, au_fault, ed_fault, process_at, process_size, tie_at, edge_at, Front, read_process, read_tie, read_edges}
 
 -- one PR or PM behind those of a
 unfoldable pub process_from : Architecture → List ℕ → ℕ → Reading Front
@@ -14,13 +14,13 @@ unfoldable pub tie_from : Architecture → List ℕ → ℕ → Reading Front
 unfolding read_tie with_tie
 tie_from a b i = read_tie a b i (proper record { architecture = with_tie a (tie_at b i); end = i + 4 })
 
--- one ED or EX behind those of u
-unfoldable pub edge_from : ℕ → Automaton → List ℕ → ℕ → Reading Automaton
-unfolding refuse◌when◌else◌ short ed_fault with_edge
-edge_from variables u b i =
+-- one ED or EX
+unfoldable pub edge_tested : ℕ → ℕ → List ℕ → ℕ → Reading Edge
+unfolding refuse◌when◌else◌ short ed_fault
+edge_tested variables states b i =
     refuse SheetTooShort when short b i 6 else
-    refuse BadEdge when ed_fault variables u.states (edge_at b i) else
-    proper (with_edge u (edge_at b i))
+    refuse BadEdge when ed_fault variables states (edge_at b i) else
+    proper (edge_at b i)
 
 -- u with these edges more
 unfoldable pub with_edges : Automaton → List Edge → Automaton
@@ -30,11 +30,6 @@ with_edges u es = record { states = u.states; initial = u.initial; rejecting = u
 unfoldable pub behind : Automaton → Reading (List Edge) → Reading Automaton
 unfolding ◌then◌ with_edges
 behind u m = m then λ es. proper (with_edges u es)
-
--- EN
-unfoldable pub end_from : Automaton → List ℕ → ℕ → Reading Automaton
-unfolding behind read_end
-end_from u b i = behind u (read_end b i)
 
 -- at most k more ED and EX, then EN
 unfoldable pub edges_from : ℕ → ℕ → Automaton → List ℕ → ℕ → Reading Automaton

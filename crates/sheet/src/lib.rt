@@ -1,8 +1,7 @@
 // The sheet file: its marks, and reading it into a struct up to its first fault in file order.
 #![tactic(auto)]
 
-ghost use Rattle.std.specs.Prelude.{◌≡◌, ◌≤◌, length};
-ghost use Rattle.model.specs.declared.Reply.{Reply};
+ghost use Rattle.std.specs.Prelude.{◌≡◌, ◌≤◌, length, IfOk, Ok};
 ghost use Rattle.model.specs.Reading.{marked, read_front, read_sheet};
 ghost use Rattle.model.specs.Calls.{reply};
 ghost use Rattle.model.specs.BenchCases.{sheet_a};
@@ -17,8 +16,8 @@ use architecture::Architecture;
 use automaton::Automaton;
 use behind::read_automaton;
 use faults::ar_fault;
-use front::{opened, read_processes, refuse};
-use model::{AutomatonState, Refusal, Reply};
+use front::{opened, read_processes};
+use model::Refusal;
 use tied::read_ties;
 
 // Each record opens with one of these marks.
@@ -45,18 +44,9 @@ pub struct Sheet {
     pub automaton: Automaton,
 }
 
-// Where the answer is a refusal, the sheet is what was read before it.
-#[derive(Clone, Copy)]
-pub struct Reading {
-    pub answer: Reply,
-    pub sheet: Sheet,
-}
-
 // AR, the PR and PM and the SY records: where the record behind them begins, the mask of all outputs, and the count of composed states.
-// Where the answer is a refusal, these are of what was read before it.
 #[derive(Clone, Copy)]
 pub struct FrontRead {
-    pub answer: Reply,
     pub architecture: Architecture,
     pub end: usize,
     pub owned: u8,
@@ -64,76 +54,50 @@ pub struct FrontRead {
 }
 
 // The mark stands at `at`, whole.
+#[tactic(auto, using(crate::proofs::Marks::starts_marked))]
 pub fn is_marked(sheet: &[u8], at: usize, mark: &[u8; 2]) -> bool
     requires { at ≤ length sheet.now }
     ensures { result ≡ marked sheet.now at mark.now }
 {
-    if sheet.len() - at < 2 {
-        return false;
-    }
-    if sheet[at] != mark[0] {
-        return false;
-    }
-    sheet[at + 1] == mark[1]
+    sheet[at..].starts_with(mark)
 }
 
 // The architecture that the bytes begin with, or its first fault.
-pub fn read_front(sheet: &[u8]) -> FrontRead
+#[tactic(auto, using(crate::proofs::RefusalTests::in_order), unfolding(model::specs::Reading::read_front))]
+pub fn read_front(sheet: &[u8]) -> Result<FrontRead, Refusal>
     ensures result_value { front_of result ≡ read_front sheet.now }
-    ensures front_known { FrontKnown sheet.now result }
+    ensures front_known { IfOk result (λ front. FrontKnown sheet.now front) }
 {
-    let nothing = opened(0, 0, 0, 0);
     if sheet.len() < 2 {
-        return refuse(Refusal::SheetTooShort, nothing);
+        return Err(Refusal::SheetTooShort);
     }
     if !is_marked(sheet, 0, &AR) {
-        return refuse(Refusal::WrongMark, nothing);
+        return Err(Refusal::WrongMark);
     }
     if sheet.len() < 5 {
-        return refuse(Refusal::SheetTooShort, nothing);
+        return Err(Refusal::SheetTooShort);
     }
     let variables = sheet[2];
     let environment = sheet[3];
     let root = sheet[4];
     if ar_fault(variables, environment, root) {
-        return refuse(Refusal::BadArchitecture, nothing);
+        return Err(Refusal::BadArchitecture);
     }
-    let front = read_processes(sheet, opened(variables, environment, root, 5));
-    let answer = front.answer;
-    if let Reply::Refused(_) = answer {
-        return front;
-    }
-    read_ties(sheet, front)
+    let processes = read_processes(sheet, opened(variables, environment, root, 5))?;
+    read_ties(sheet, processes)
 }
 
 // The sheet that the bytes stand for, or its first fault.
-pub fn read(sheet: &[u8]) -> Reading
+pub fn read(sheet: &[u8]) -> Result<Sheet, Refusal>
     ensures result_value { reading_of result ≡ read_sheet sheet.now }
-    ensures arrays { Arrays result.sheet }
+    ensures arrays { IfOk result (λ read. Arrays read) }
 {
-    let front = read_front(sheet);
-    let architecture = front.architecture;
-    let answer = front.answer;
-    if let Reply::Refused(_) = answer {
-        let automaton = Automaton::opened(0, AutomatonState(0), 0);
-        return Reading {
-            answer,
-            sheet: Sheet {
-                architecture,
-                automaton,
-            },
-        };
-    }
-    let behind = read_automaton(sheet, front);
-    let answer = behind.answer;
-    let automaton = behind.automaton;
-    Reading {
-        answer,
-        sheet: Sheet {
-            architecture,
-            automaton,
-        },
-    }
+    let front = read_front(sheet)?;
+    let automaton = read_automaton(sheet, front)?;
+    Ok(Sheet {
+        architecture: front.architecture,
+        automaton,
+    })
 }
 
 // Case A: the arbiter with two clients, fully informed.
@@ -144,9 +108,10 @@ pub const CASE_A: [u8; 60] = *b"\
     ED\x03\x03\x00\x00EN";
 
 // The computed test of this table, which as a constant has no contract: it is case A of the definitions, and reads as a proper sheet.
+#[tactic(auto, unfolding(model::specs::Reading::read_sheet, model::specs::Calls::reply))]
 pub fn sheet_a() -> [u8; 60]
     ensures value { result ≡ sheet_a 2 }
-    ensures result_value { reply (read_sheet result) ≡ Reply.Done }
+    ensures result_value { reply (read_sheet result) ≡ Ok tt }
 {
     CASE_A
 }

@@ -6,7 +6,6 @@ ghost use Rattle.std.specs.Prelude.{◌≡◌, ◌≤◌, length};
 ghost use Rattle.template.specs.Holds.{Holds};
 ghost use Rattle.show.specs.Shown.{shown};
 
-use model::Reply;
 use std::env::Env;
 
 // One byte more than the longest proper sheet, so that a byte after EN is seen.
@@ -17,14 +16,9 @@ fn answer_text(text: &mut [u8], sheet: &[u8]) -> usize
     requires { 8192 ≤ length text.old }
     ensures { Holds text.new result (shown sheet.now) }
 {
-    let reading = sheet::read(sheet);
-    let answer = reading.answer;
-    match answer {
-        Reply::Refused(refusal) => text::refused_text(text, refusal),
-        Reply::Done => {
-            let read = reading.sheet;
-            listing::sheet_text(text, read)
-        }
+    match sheet::read(sheet) {
+        Ok(read) => listing::sheet_text(text, read),
+        Err(refusal) => text::refused_text(text, refusal),
     }
 }
 

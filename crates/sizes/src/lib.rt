@@ -3,7 +3,7 @@
 
 ghost use Rattle.std.specs.Prelude.{◌≡◌, ◌≤◌};
 ghost use Rattle.model.specs.Book.{book_length};
-ghost use Rattle.model.specs.RunGraph.{vertices as verticesOf};
+ghost use Rattle.model.specs.RunGraph.{vertices as vertices_of};
 ghost use Rattle.architecture.specs.Struct.{IsProper as IsProperArchitecture, architecture_of};
 ghost use Rattle.sheet.specs.Struct.{sheet_of, IsProper};
 
@@ -22,9 +22,7 @@ pub fn book_length(a: Architecture) -> usize
 // The numbers of an annotation: T times the automaton states.
 pub fn vertices(sheet: Sheet) -> usize
     requires { IsProper sheet }
-    ensures { (result ≡ verticesOf (sheet_of sheet)) × (result ≤ 4096) }
+    ensures { (result ≡ vertices_of (sheet_of sheet)) × (result ≤ 4096) }
 {
-    let a = sheet.architecture;
-    let automaton = sheet.automaton;
-    automaton.states as usize * a.composed_states()
+    sheet.automaton.states as usize * sheet.architecture.composed_states()
 }

@@ -1,8 +1,6 @@
 -- Small examples beside the bench cases, whose rows are constant and whose roots are 0: each refuses a definition that all bench cases would let pass.
-use Rattle.std.specs.Prelude.{◌≡◌, true, false, List, [], ◌∷◌, ◌++◌, map, ℕ, length, replicate, take}
+use Rattle.std.specs.Prelude.{◌≡◌, true, false, List, [], ◌∷◌, ◌++◌, map, ℕ, length, replicate, take, Ok}
 use Rattle.model.specs.declared.Finding.TheVariants.{Yes, No}
-use Rattle.model.specs.declared.Verdict.{Verdict}
-use Rattle.model.specs.declared.Reply.{Reply}
 use Rattle.model.specs.Mask.{pack}
 use Rattle.model.specs.Sheet.{Process, Tie, Architecture, Edge, Sheet}
 use Rattle.model.specs.Reading.{proper, read_front}
@@ -333,15 +331,15 @@ pub record Pinned : Type 0 where
   -- a loop of two steps, rejecting at one of them
   pub longer_loop : annotate_of (sheet_e 1 2 2 (edge 0 1 ++ edge 1 0)) book_e (buffer 2) (buffer 8) ≡ looped 2
   -- 65534 is a number
-  pub greatest_number : judge_of case_e book_e (65534 ∷ []) ≡ Verdict.Found Yes
+  pub greatest_number : judge_of case_e book_e (65534 ∷ []) ≡ Ok Yes
   -- the initial vertex isn't blank
-  pub start_numbered : judge_of case_e book_e (65535 ∷ []) ≡ Verdict.Found No
+  pub start_numbered : judge_of case_e book_e (65535 ∷ []) ≡ Ok No
   -- a successor of a numbered vertex isn't blank
-  pub successor_numbered : judge_of (sheet_e 1 2 0 (edge 0 1)) book_e (0 ∷ 65535 ∷ []) ≡ Verdict.Found No
+  pub successor_numbered : judge_of (sheet_e 1 2 0 (edge 0 1)) book_e (0 ∷ 65535 ∷ []) ≡ Ok No
   -- nor lower, where nothing rejects
-  pub no_lower : judge_of (sheet_e 1 2 0 (edge 0 1)) book_e (1 ∷ 0 ∷ []) ≡ Verdict.Found No
+  pub no_lower : judge_of (sheet_e 1 2 0 (edge 0 1)) book_e (1 ∷ 0 ∷ []) ≡ Ok No
   -- so too from a numbered vertex that can't be reached
-  pub everywhere : judge_of (sheet_e 1 2 2 (edge 1 1)) book_e (0 ∷ 0 ∷ []) ≡ Verdict.Found No
+  pub everywhere : judge_of (sheet_e 1 2 2 (edge 1 1)) book_e (0 ∷ 0 ∷ []) ≡ Ok No
   -- 3: more than 8 variables; more than 4 of the environment; a root bit that is not the environment's
   pub nine_variables : reply_code (check_of (ar 9 0 0)) ≡ 3
   pub five_of_environment : reply_code (check_of (ar 5 5 0)) ≡ 3
@@ -445,7 +443,7 @@ pub record Pinned : Type 0 where
   pub broken_malformed : verdict_code (annotate_of case_s malformed [] []).answer ≡ 10
   pub broken_part_process : reply_code (part_of case_s malformed 2).answer ≡ 12
   -- what is behind the entries breaks no tie
-  pub rest_not_tied : write_of case_s (0x01 ∷ 0 ∷ 0x02 ∷ 0 ∷ 1 ∷ 9 ∷ []) (buffer 15) ≡ record { answer = Reply.Done; book = book_s 0x01 0x02 ++ buffer 1 }
+  pub rest_not_tied : write_of case_s (0x01 ∷ 0 ∷ 0x02 ∷ 0 ∷ 1 ∷ 9 ∷ []) (buffer 15) ≡ record { answer = Ok tt; book = book_s 0x01 0x02 ++ buffer 1 }
   -- writing: 11 before 8
   pub write_entries_first : reply_code (write_of case_e (1 ∷ 0 ∷ []) []).answer ≡ 11
   pub write_room : reply_code (write_of case_e (0 ∷ 0 ∷ []) (buffer 7)).answer ≡ 8

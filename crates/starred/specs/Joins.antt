@@ -1,6 +1,5 @@
 -- 01, "Two sheets as one": sheets joined, byte by byte; and what cannot be joined, each refusal beside those before and after it.
-use Rattle.std.specs.Prelude.{◌≡◌, List, [], ◌∷◌, ◌++◌, ℕ, zero, suc, ◌+◌}
-use Rattle.model.specs.declared.Written.{Written}
+use Rattle.std.specs.Prelude.{◌≡◌, List, [], ◌∷◌, ◌++◌, ℕ, zero, suc, ◌+◌, Ok}
 use Rattle.model.specs.Reading.{proper}
 use Rattle.model.specs.Join.{join_bytes}
 use Rattle.model.specs.Calls.{find_of, join_of}
@@ -104,7 +103,7 @@ pub record JoinsPinned : Type 0 where
   pub too_short : (join_of (sheet_e 1 1 0 []) (sheet_e 1 1 0 []) (buffer 17)).sheet ≡ buffer 17
   pub eight : code (sheet_e 1 1 0 []) (sheet_e 1 1 0 []) 17 ≡ 8
   pub just_enough : code (sheet_e 1 1 0 []) (sheet_e 1 1 0 []) 18 ≡ 65536 + 18
-  pub rest_stays : join_of (sheet_e 1 1 0 []) (sheet_e 1 1 0 []) (buffer 19) ≡ record { answer = Written.Length 18; sheet = front_e ++ states 3 0 0x00 0x00 ++ end ++ buffer 1 }
+  pub rest_stays : join_of (sheet_e 1 1 0 []) (sheet_e 1 1 0 []) (buffer 19) ≡ record { answer = Ok 18; sheet = front_e ++ states 3 0 0x00 0x00 ++ end ++ buffer 1 }
   -- 19: other machines; the same ones, but written otherwise
   pub other_machines : code (sheet_e 1 1 0 []) (sheet_a 2) 433 ≡ 19
   pub other_bound : code (sheet_e 1 1 0 []) (sheet_e 2 1 0 []) 433 ≡ 19

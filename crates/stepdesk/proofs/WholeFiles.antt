@@ -4,11 +4,10 @@ use mathlib.Core.List.{List}
 use Prim.Native.Nat.{ℕ}
 use lib.ListN.{take}
 use Rattle.model.specs.declared.Desk.{Desk}
-use Rattle.model.specs.declared.Stepped.{Stepped}
 use Rattle.model.specs.Sheet.{Sheet}
 use Rattle.model.specs.Reading.{Reading, refused, proper, ◌then◌, read_sheet}
 use Rattle.model.specs.Book.{read_book}
-use Rattle.model.specs.Desk.{choice_for, step_when_read, step_of}
+use Rattle.model.specs.Desk.{AfterStep, choice_for, step_when_read, step_of}
 use Rattle.model.proofs.Prefix.{read_prefix}
 use Rattle.model.proofs.ProperSheet.{sheet_proper}
 use Rattle.sizes.proofs.BookFront.{book_front}
@@ -39,4 +38,4 @@ module _ (sheet book : List ℕ) where
 
   pub whole_lines : (k : Desk) (d : ℕ) → line_for (take 434 sheet) (take 339 book) k d ≡ line_for sheet book k d
   unfolding line_for
-  whole_lines k d = ap₂ (λ (m : Reading Sheet) (x : Stepped). line_by m d x) (read_prefix sheet) (step_front k d)
+  whole_lines k d = ap₂ (λ (m : Reading Sheet) (x : AfterStep). line_by m d x) (read_prefix sheet) (step_front k d)

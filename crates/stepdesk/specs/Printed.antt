@@ -1,11 +1,10 @@
 -- What the desk program writes on standard output: the opening for the bytes of two files, and then a line for each direction. These are definitions.
 use Rattle.std.specs.Prelude.{List, [], ℕ}
 use Rattle.model.specs.declared.Desk.{Desk}
-use Rattle.model.specs.declared.Stepped.{Stepped}
 use Rattle.model.specs.Sheet.{Sheet}
 use Rattle.model.specs.Reading.{Reading, refused, proper, ◌then◌, read_sheet}
 use Rattle.model.specs.Book.{read_book}
-use Rattle.model.specs.Desk.{step_of}
+use Rattle.model.specs.Desk.{AfterStep, step_of}
 use Rattle.text.specs.Text.{text_or_refused}
 use Rattle.stepping.specs.Lines.{start_text, step_text}
 
@@ -15,7 +14,7 @@ unfolding text_or_refused read_sheet ◌then◌ read_book start_text
 opening sheet book = text_or_refused (read_sheet sheet then λ s. read_book s.architecture book then λ c. proper (start_text s.architecture c))
 
 -- the line of a step; there is none without a sheet
-unfoldable pub line_by : Reading Sheet → ℕ → Stepped → List ℕ
+unfoldable pub line_by : Reading Sheet → ℕ → AfterStep → List ℕ
 line_by (refused r) d next = []
 line_by (proper s) d next = step_text s.architecture d next
 

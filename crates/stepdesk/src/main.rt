@@ -2,12 +2,12 @@
 // direction is a word of one or two hexadecimal digits. Each line is written as soon as its direction is read, so directions may be typed.
 #![tactic(auto)]
 
-ghost use Rattle.std.specs.Prelude.{◌≡◌, ◌≤◌, length, false};
+ghost use Rattle.std.specs.Prelude.{◌≡◌, ◌≤◌, length, IfSome};
 ghost use Rattle.template.specs.Holds.{Holds};
 ghost use Rattle.stepdesk.specs.Printed.{opening, line_for};
 ghost use Rattle.stepdesk.specs.Ready.{BothRead, Ready};
 
-use model::{Desk, ProcessState, Reply};
+use model::{Desk, ProcessState};
 use sheet::Sheet;
 use std::env::Env;
 use std::io::Read;
@@ -19,12 +19,11 @@ const SHEET_ROOM: usize = 434;
 // One byte more than the longest book, so that one that is too long is seen.
 const BOOK_ROOM: usize = 339;
 
-// The desk, the word that is being read, and whether more is to be read.
+// The desk, and the word that is being read. Where more bytes are to be read a function answers the session behind what it took, and otherwise None.
 #[derive(Clone, Copy)]
 struct Session {
     desk: Desk,
     word: Word,
-    is_open: bool,
 }
 
 // ---- what is written on standard output, and nothing else is
@@ -48,78 +47,56 @@ fn opening_text(text: &mut [u8], sheet: &[u8], book: &[u8]) -> usize
     requires { 64 ≤ length text.old }
     ensures { Holds text.new result (opening sheet.now book.now) }
 {
-    let book_read = planner::read(sheet, book);
-    let answer = book_read.answer;
-    match answer {
-        Reply::Refused(refusal) => text::refused_text(text, refusal),
-        Reply::Done => {
-            let tables = book_read.tables;
-            let reading = sheet::read(sheet);
-            let read = reading.sheet;
-            let a = read.architecture;
-            stepping::start_text(text, a, &tables)
+    match planner::read(sheet, book) {
+        Ok(tables) => {
+            let read = sheet::read(sheet).unwrap();
+            stepping::start_text(text, read.architecture, &tables)
         }
+        Err(refusal) => text::refused_text(text, refusal),
     }
 }
 
 // ---- the directions
-// Nothing more is read.
-fn closed(session: Session) -> Session
-    ensures { result ≡ record { desk = session.desk; word = session.word; is_open = false } }
-{
-    let desk = session.desk;
-    let word = session.word;
-    Session {
-        desk,
-        word,
-        is_open: false,
-    }
-}
-
 // The word is a direction: the desk is stepped, and the line written.
 fn step(rt: &impl Print, sheet: &[u8], book: &[u8], read: Sheet, session: Session) -> Session
     requires { Ready sheet.now book.now read session }
     ensures { Ready sheet.now book.now read result }
 {
-    let desk = session.desk;
-    let word = session.word;
-    let direction = word.value;
-    let next = planner::step_by_value(sheet, book, desk, direction);
+    let direction = session.word.value;
+    let mut desk = session.desk;
+    let answer = planner::step(sheet, book, &mut desk, direction);
     let mut text = [0u8; 64];
-    let a = read.architecture;
-    let end = stepping::step_text(&mut text, a, direction, next);
-    put_line(rt, sheet, book, desk, direction, &text[..end]);
-    let after = next.desk;
+    let end = stepping::step_text(&mut text, read.architecture, direction, answer, desk);
+    put_line(rt, sheet, book, session.desk, direction, &text[..end]);
     Session {
-        desk: after,
+        desk,
         word: stepping::no_word(),
-        is_open: true,
     }
 }
 
-// A word ends, if there is one.
+// A word ends, if there is one. One that is no direction is the last.
 fn end_word<R: Print + Eprint>(
     rt: &R,
     sheet: &[u8],
     book: &[u8],
     read: Sheet,
     session: Session,
-) -> Session
+) -> Option<Session>
     requires { Ready sheet.now book.now read session }
-    ensures { Ready sheet.now book.now read result }
+    ensures { IfSome result (λ after. Ready sheet.now book.now read after) }
 {
     let word = session.word;
     if word.digits == 0 {
-        return session;
+        return Some(session);
     }
     if word.digits == 3 {
         input::say(
             rt,
             b"standard input: a direction is one or two hexadecimal digits\n",
         );
-        return closed(session);
+        return None;
     }
-    step(rt, sheet, book, read, session)
+    Some(step(rt, sheet, book, read, session))
 }
 
 // One byte more.
@@ -130,20 +107,17 @@ fn take_byte<R: Print + Eprint>(
     read: Sheet,
     session: Session,
     byte: u8,
-) -> Session
+) -> Option<Session>
     requires { Ready sheet.now book.now read session }
-    ensures { Ready sheet.now book.now read result }
+    ensures { IfSome result (λ after. Ready sheet.now book.now read after) }
 {
     if stepping::is_blank(byte) {
         return end_word(rt, sheet, book, read, session);
     }
-    let desk = session.desk;
-    let word = session.word;
-    Session {
-        desk,
-        word: stepping::extended(word, byte),
-        is_open: true,
-    }
+    Some(Session {
+        word: stepping::extended(session.word, byte),
+        ..session
+    })
 }
 
 // All of these bytes, or those up to the first word that is no direction.
@@ -154,20 +128,15 @@ fn take_bytes<R: Print + Eprint>(
     read: Sheet,
     start: Session,
     bytes: &[u8],
-) -> Session
+) -> Option<Session>
     requires { Ready sheet.now book.now read start }
-    ensures { Ready sheet.now book.now read result }
+    ensures { IfSome result (λ after. Ready sheet.now book.now read after) }
 {
     let mut session = start;
-    let mut k: usize = 0;
-    while k < bytes.len() {
-        if !session.is_open {
-            return session;
-        }
-        session = take_byte(rt, sheet, book, read, session, bytes[k]);
-        k += 1;
+    for byte in bytes {
+        session = take_byte(rt, sheet, book, read, session, *byte)?;
     }
-    session
+    Some(session)
 }
 
 // Reads once. Where nothing comes, the last word ends.
@@ -178,19 +147,20 @@ fn take_some<R: Print + Eprint, S: Read>(
     book: &[u8],
     read: Sheet,
     session: Session,
-) -> Session
+) -> Option<Session>
     requires { Ready sheet.now book.now read session }
-    ensures { Ready sheet.now book.now read result }
+    ensures { IfSome result (λ after. Ready sheet.now book.now read after) }
 {
     let mut bytes = [0u8; 512];
     let n = source.read(&mut bytes).unwrap_or(0);
     if n == 0 {
-        return closed(end_word(rt, sheet, book, read, session));
+        let _ = end_word(rt, sheet, book, read, session);
+        return None;
     }
     take_bytes(rt, sheet, book, read, session, &bytes[..n])
 }
 
-// A proved loop has to end, and nothing says that standard input does: so the turns are counted down from a number that no run uses up.
+// A proved loop has to end, and nothing says that standard input does: so the turns are counted up to a number that no run reaches.
 fn take_all<R: Print + Eprint, S: Read>(
     rt: &R,
     source: &mut S,
@@ -202,13 +172,11 @@ fn take_all<R: Print + Eprint, S: Read>(
     requires { Ready sheet.now book.now read start }
 {
     let mut session = start;
-    let mut turns = u64::MAX;
-    while 0 < turns {
-        if !session.is_open {
-            return;
+    for _ in 0..u64::MAX {
+        match take_some(rt, source, sheet, book, read, session) {
+            Some(after) => session = after,
+            None => return,
         }
-        session = take_some(rt, source, sheet, book, read, session);
-        turns -= 1;
     }
 }
 
@@ -216,15 +184,11 @@ fn take_all<R: Print + Eprint, S: Read>(
 fn step_all<R: Input + Print + Eprint>(rt: &R, sheet: &[u8], book: &[u8], read: Sheet)
     requires { BothRead sheet.now book.now read }
 {
-    let states = [ProcessState(0); 4];
-    let made = planner::fresh(
-        sheet,
-        Desk {
-            states,
-            environment: 0,
-        },
-    );
-    let desk = made.desk;
+    let blank = Desk {
+        states: [ProcessState(0); 4],
+        environment: 0,
+    };
+    let desk = planner::fresh(sheet, blank).unwrap();
     take_all(
         rt,
         &mut rt.reader(),
@@ -234,7 +198,6 @@ fn step_all<R: Input + Print + Eprint>(rt: &R, sheet: &[u8], book: &[u8], read: 
         Session {
             desk,
             word: stepping::no_word(),
-            is_open: true,
         },
     );
 }
@@ -244,15 +207,12 @@ fn answer<R: Env + Input + Print + Eprint>(rt: &R, sheet: &[u8], book: &[u8]) {
     let mut text = [0u8; 64];
     let end = opening_text(&mut text, sheet, book);
     put_opening(rt, sheet, book, &text[..end]);
-    let book_read = planner::read(sheet, book);
-    let answer = book_read.answer;
-    match answer {
-        Reply::Refused(refusal) => cause::explain(rt, refusal, sheet),
-        Reply::Done => {
-            let reading = sheet::read(sheet);
-            let read = reading.sheet;
+    match planner::read(sheet, book) {
+        Ok(_) => {
+            let read = sheet::read(sheet).unwrap();
             step_all(rt, sheet, book, read);
         }
+        Err(refusal) => cause::explain(rt, refusal, sheet),
     }
 }
 

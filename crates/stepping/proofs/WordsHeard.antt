@@ -17,12 +17,6 @@ one_digit zero v l h = omega arith
 one_digit (suc zero) v l h = h
 one_digit (suc (suc d)) v l h = absurd (omega arith)
 
--- and with that digit
-pub digit_more : (d v x : ℕ) → d ≤ 1 → v < 16 ^ d → x < 16 → 16 * v + x < 16 ^ (d + 1)
-digit_more zero v x l h lx = omega arith
-digit_more (suc zero) v x l h lx = omega arith
-digit_more (suc (suc d)) v x l h lx = absurd (omega arith)
-
 -- ---- as it is printed
 -- the digits 0 to 9, and A to F
 low_heard : (y : ℕ) → y < 10 → digit_of (48 + y) ≡ y

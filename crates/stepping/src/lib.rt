@@ -1,7 +1,8 @@
 // What the desk program reads and prints: words of hexadecimal digits, a line for the start, and one for each direction.
 #![tactic(auto)]
 
-ghost use Rattle.std.specs.Prelude.{◌≡◌, ◌^◌, ◌<◌, ◌≤◌, length};
+ghost use Rattle.std.specs.Prelude.{◌≡◌, ◌^◌, ◌<◌, ◌≤◌, length, IfSome};
+ghost use Rattle.std.specs.Option.{unwrap_or};
 ghost use Rattle.model.specs.Choice.{chosen, IsTables};
 ghost use Rattle.model.specs.Desk.{on_desk};
 ghost use Rattle.model.proofs.ComposedNumbers.{IsState};
@@ -12,12 +13,13 @@ ghost use Rattle.stepping.specs.Words as words;
 
 use architecture::Architecture;
 use composition::Composed;
-use model::{Shown, Stepped};
+use model::{Desk, Refusal};
 use replay::put_with_states;
 use template::put_filled;
 
 // ---- words
-// A word that is being read: how many digits it has, and their value. Three digits stand for a word that is no direction.
+// A word that is being read: how many digits it has, and their value. Three digits stand for a word that is no direction, as in the
+// definitions.
 #[derive(Clone, Copy)]
 pub struct Word {
     pub digits: u8,
@@ -25,45 +27,24 @@ pub struct Word {
 }
 
 // A byte between two words.
+#[tactic(auto, unfolding(crate::specs::Words::is_blank))]
 pub fn is_blank(byte: u8) -> bool
     ensures { result ≡ words.is_blank byte }
 {
-    if byte == b' ' {
-        return true;
-    }
-    if byte == b'\t' {
-        return true;
-    }
-    if byte == b'\n' {
-        return true;
-    }
-    byte == b'\r'
+    matches!(byte, b' ' | b'\t' | b'\n' | b'\r')
 }
 
-// The value of a digit, or 16.
-fn digit_of(byte: u8) -> u8
-    ensures value { result ≡ words.digit_of byte }
-    ensures upper_bound { result ≤ 16 }
+// The value of a digit; None, where the definition has 16, for any other byte.
+fn digit_of(byte: u8) -> Option<u8>
+    ensures value { unwrap_or result 16 ≡ words.digit_of byte }
+    ensures upper_bound { IfSome result (λ digit. digit < 16) }
 {
-    if byte < b'0' {
-        return 16;
+    match byte {
+        b'0'..=b'9' => Some(byte - b'0'),
+        b'A'..=b'F' => Some(byte - b'A' + 10),
+        b'a'..=b'f' => Some(byte - b'a' + 10),
+        _ => None,
     }
-    if byte < b':' {
-        return byte - b'0';
-    }
-    if byte < b'A' {
-        return 16;
-    }
-    if byte < b'G' {
-        return byte - b'A' + 10;
-    }
-    if byte < b'a' {
-        return 16;
-    }
-    if byte < b'g' {
-        return byte - b'a' + 10;
-    }
-    16
 }
 
 // No byte of a word yet.
@@ -107,11 +88,10 @@ pub fn extended(word: Word, byte: u8) -> Word
     ensures value { result ≡ words.extended word byte }
     ensures value_bound { result.value < 16 ^ result.digits }
 {
-    let digit = digit_of(byte);
-    if digit == 16 {
-        return no_direction();
+    match digit_of(byte) {
+        Some(digit) => longer(word, digit),
+        None => no_direction(),
     }
-    longer(word, digit)
 }
 
 // ---- lines, each at the front of the buffer: the functions answer its length
@@ -134,23 +114,21 @@ pub fn start_text(text: &mut [u8], a: Architecture, tables: &[u8]) -> usize
     )
 }
 
-// A step by a direction.
-pub fn step_text(text: &mut [u8], a: Architecture, direction: u8, next: Stepped) -> usize
+// A step by a direction: what it answered, and the desk behind it.
+pub fn step_text(
+    text: &mut [u8],
+    a: Architecture,
+    direction: u8,
+    answer: Result<u8, Refusal>,
+    desk: Desk,
+) -> usize
     requires in_bounds { 64 ≤ length text.old }
     requires proper { IsProper a }
-    requires state { IsState (architecture_of a) (on_desk (architecture_of a) next.desk) }
-    ensures { Holds text.new result (lines.step_text (architecture_of a) direction next) }
+    requires state { IsState (architecture_of a) (on_desk (architecture_of a) desk) }
+    ensures { Holds text.new result (lines.line_of (architecture_of a) direction answer desk) }
 {
-    let answer = next.answer;
     match answer {
-        Shown::Refused(refusal) => put_filled(
-            text,
-            0,
-            b"direction % refused #\n",
-            &[direction as usize, refusal.number() as usize],
-        ),
-        Shown::Label(label) => {
-            let desk = next.desk;
+        Ok(label) => {
             let states = desk.states;
             let t = Composed {
                 states,
@@ -165,5 +143,11 @@ pub fn step_text(text: &mut [u8], a: Architecture, direction: u8, next: Stepped)
                 t,
             )
         }
+        Err(refusal) => put_filled(
+            text,
+            0,
+            b"direction % refused #\n",
+            &[direction as usize, refusal.number() as usize],
+        ),
     }
 }

@@ -7,7 +7,6 @@ use native.Mathlib.Omega.{arith}
 use lib.ListN.{length, drop, take-append-drop}
 use Rattle.model.specs.declared.Refusal.{Refusal}
 use Rattle.model.specs.declared.Refusal.TheVariants.{BufferTooShort, AnnotationBufferTooShort}
-use Rattle.model.specs.declared.Reply.{Reply}
 use Rattle.model.specs.Sheet.{Sheet}
 use Rattle.model.specs.Reading.{Reading, refused, proper}
 use Rattle.model.specs.Choice.{entries, IsChoice, chosen}
@@ -19,23 +18,24 @@ use Rattle.model.proofs.FitsTest.{fits_length}
 use Rattle.model.proofs.BookRead.{chosen_faultless}
 use Rattle.model.proofs.BookInverse.{filled_front, holes_form}
 use Rattle.model.proofs.Refusing.{go}
+use Rattle.std.specs.Prelude.{Ok, Err}
 
 -- ---- what the answer says
-refused_by : (k : Reading Sheet) (r : Refusal) → Reply.Refused r ≡ reply k → k ≡ refused r
+refused_by : (k : Reading Sheet) (r : Refusal) → Err r ≡ reply k → k ≡ refused r
 unfolding reply
 refused_by (refused q) r e = let z : q ≡ r = cc in ap (λ (x : Refusal). refused x) z
 refused_by (proper s) r e = let z : ◌≡◌ {A = ℕ} 0 1 = cc in absurd (omega arith)
 
-done_by : (k : Reading Sheet) → Reply.Done ≡ reply k → (s : Sheet) × (k ≡ proper s)
+done_by : (k : Reading Sheet) → Ok tt ≡ reply k → (s : Sheet) × (k ≡ proper s)
 unfolding reply
 done_by (refused r) e = let z : ◌≡◌ {A = ℕ} 0 1 = cc in absurd (omega arith)
 done_by (proper s) e = (s, refl)
 
 module _ (s : Sheet) (book ann : List ℕ) where
-  pub no_room : (r : Refusal) → Reply.Refused r ≡ reply (room_to_find s book ann) → room_to_find s book ann ≡ refused r
+  pub no_room : (r : Refusal) → Err r ≡ reply (room_to_find s book ann) → room_to_find s book ann ≡ refused r
   no_room = refused_by (room_to_find s book ann)
 
-  pub some_room : Reply.Done ≡ reply (room_to_find s book ann) → room_to_find s book ann ≡ proper s
+  pub some_room : Ok tt ≡ reply (room_to_find s book ann) → room_to_find s book ann ≡ proper s
   unfolding room_to_find
   some_room e =
       let d = done_by (room_to_find s book ann) e in

@@ -12,12 +12,11 @@ ghost use Rattle.sheet.specs.Struct.{sheet_of, IsProper};
 ghost use Rattle.search.specs.Choices.{Witness};
 ghost use Rattle.search.specs.Answers.{Leads};
 
-use model::{Outcome, Refusal, Reply};
-use search::Searched;
+use model::{Found, Refusal};
 use sheet::Sheet;
 
 // The entries of the first choice that keeps the sheet, if there is one.
-fn first_tables(witness: &mut [u8; 272], sheet: Sheet) -> Searched
+fn first_tables(witness: &mut [u8; 272], sheet: Sheet) -> Found
     requires proper { IsProper sheet }
     requires witness_len { length witness.old ≡ 272 }
     ensures { Leads (sheet_of sheet) witness.new result }
@@ -47,7 +46,7 @@ fn first_tables(witness: &mut [u8; 272], sheet: Sheet) -> Searched
 }
 
 // 8 and 9: is there room for the book and for the annotation?
-fn check_room(sheet: Sheet, book: &[u8], annotation: &[u16]) -> Reply
+fn check_room(sheet: Sheet, book: &[u8], annotation: &[u16]) -> Result<(), Refusal>
     requires { IsProper sheet }
     ensures { result ≡ reply (room_to_find (sheet_of sheet) book.now annotation.now) }
 {
@@ -56,13 +55,13 @@ fn check_room(sheet: Sheet, book: &[u8], annotation: &[u16]) -> Reply
     let mut slots = [0u16; 338];
     let n = layout::fill_slots(&mut slots, a);
     if book.len() < n {
-        return Reply::Refused(Refusal::BufferTooShort);
+        return Err(Refusal::BufferTooShort);
     }
     let vertices = automaton.states as usize * a.composed_states();
     if annotation.len() < vertices {
-        return Reply::Refused(Refusal::AnnotationBufferTooShort);
+        return Err(Refusal::AnnotationBufferTooShort);
     }
-    Reply::Done
+    Ok(())
 }
 
 // Of a choice that keeps the sheet: its book and its annotation go to the fronts of the buffers. Where there is room neither is refused.
@@ -74,28 +73,24 @@ fn put_found(sheet: Sheet, witness: &[u8; 272], book: &mut [u8], annotation: &mu
     ensures annotation_after { annotation.new ≡ front (annotation_of (sheet_of sheet) (chosen (architecture_of sheet.architecture) witness.now)) annotation.old }
 {
     let a = sheet.architecture;
-    book::write_for(a, witness, book);
-    judging::annotate_tables(sheet, witness, annotation);
+    let _ = book::write_for(a, witness, book);
+    let _ = judging::annotate_tables(sheet, witness, annotation);
 }
 
 // Of a proper sheet: the book and the annotation of the first choice that keeps it go to the fronts of the buffers.
-pub fn find_for(sheet: Sheet, book: &mut [u8], annotation: &mut [u16]) -> Outcome
+pub fn find_for(sheet: Sheet, book: &mut [u8], annotation: &mut [u16]) -> Result<Found, Refusal>
     requires { IsProper sheet }
     ensures value { result ≡ (find_in (room_to_find (sheet_of sheet) book.old annotation.old) book.old annotation.old).answer }
     ensures book_after { book.new ≡ (find_in (room_to_find (sheet_of sheet) book.old annotation.old) book.old annotation.old).book }
     ensures annotation_after { annotation.new ≡ (find_in (room_to_find (sheet_of sheet) book.old annotation.old) book.old annotation.old).annotation }
 {
-    let room = check_room(sheet, book, annotation);
-    if let Reply::Refused(refusal) = room {
-        return Outcome::Refused(refusal);
-    }
+    check_room(sheet, book, annotation)?;
     let mut witness = [0u8; 272];
-    let found = first_tables(&mut witness, sheet);
-    match found {
-        Searched::Nothing => Outcome::Nothing,
-        Searched::Tables => {
+    match first_tables(&mut witness, sheet) {
+        Found::Nothing => Ok(Found::Nothing),
+        Found::Tables => {
             put_found(sheet, &witness, book, annotation);
-            Outcome::Tables
+            Ok(Found::Tables)
         }
     }
 }

@@ -2,11 +2,11 @@
 use mathlib.Core.Path.{◌≡◌, sym, ap, ◌∙◌}
 use mathlib.Core.Logic.{◌⊎◌, inl, inr}
 use mathlib.Core.List.{List, [], ◌∷◌, ◌++◌}
-use Prim.Native.Nat.{ℕ, zero, suc, ◌+◌, ◌/◌, ◌%◌, ◌^◌, ◌<◌, ◌≤◌}
+use Prim.Native.Nat.{ℕ, zero, suc, ◌/◌, ◌%◌, ◌^◌, ◌<◌, ◌≤◌}
 use native.Mathlib.Nat.{pow-suc}
 use native.Mathlib.Omega.{arith}
-use native.Mathlib.Decide.{dec_lt}
 use lib.ListN.{length, length-append}
+use Rattle.std.proofs.lemmas.Bool.{cases_lt}
 use borrow.Author.Tests.{lt-ltb, le-ltb}
 use Rattle.model.specs.Mask.{if}
 use Rattle.template.specs.Template.{digit, decimal_in, decimal}
@@ -21,18 +21,11 @@ digits_more : (k n : ℕ) → 10 ≤ n → decimal_in (suc k) n ≡ decimal_in k
 unfolding decimal_in if
 digits_more k n h = rw (le-ltb n 10 h)
 
-few? : (n : ℕ) → (n < 10) ⊎ (10 ≤ n)
-few? n = by (dec_lt n 10)
-  where
-    by : Dec (n < 10) → (n < 10) ⊎ (10 ≤ n)
-    by (yes h) = inl h
-    by (no h) = inr (omega arith)
-
 -- more places than digits change nothing
 digits_same : (k m n : ℕ) → n < k → n < m → decimal_in k n ≡ decimal_in m n
 digits_same zero m n h l = absurd (omega arith)
 digits_same (suc k) zero n h l = absurd (omega arith)
-digits_same (suc k) (suc m) n h l = by (digits_same k m (n / 10)) (few? n)
+digits_same (suc k) (suc m) n h l = by (digits_same k m (n / 10)) (cases_lt n 10)
   where
     by : (n / 10 < k → n / 10 < m → decimal_in k (n / 10) ≡ decimal_in m (n / 10)) → (n < 10) ⊎ (10 ≤ n) → decimal_in (suc k) n ≡ decimal_in (suc m) n
     by r (inl few) = digits_few k n few ∙ sym (digits_few m n few)
@@ -49,7 +42,7 @@ decimal_more n h = digits_more n n h ∙ ap (λ (l : List ℕ). l ++ (digit (n %
 -- how many digits there are
 pub decimal_short : (k n : ℕ) → n < 10 ^ suc k → length (decimal n) ≤ suc k
 decimal_short zero n h = omega (arith, ap length (decimal_few n h))
-decimal_short (suc k) n h = by (decimal_short k (n / 10)) (few? n)
+decimal_short (suc k) n h = by (decimal_short k (n / 10)) (cases_lt n 10)
   where
     by : (n / 10 < 10 ^ suc k → length (decimal (n / 10)) ≤ suc k) → (n < 10) ⊎ (10 ≤ n) → length (decimal n) ≤ suc (suc k)
     by r (inl few) = omega (arith, ap length (decimal_few n few))

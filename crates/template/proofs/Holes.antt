@@ -1,7 +1,7 @@
 -- A template, a byte at a time: which part of the text is due next, and what is left behind it.
 use mathlib.Core.Path.{◌≡◌}
 use mathlib.Core.Bool.{Bool, true, false}
-use mathlib.Core.List.{List, [], ◌∷◌}
+use mathlib.Core.List.{List, []}
 use Prim.Native.Char.{code}
 use Prim.Native.Nat.{ℕ, ◌+◌, ◌<◌, ◌≤◌}
 use native.Mathlib.Numerals.{add-one}
@@ -10,29 +10,11 @@ use native.Mathlib.Omega.{arith}
 use lib.Dec.{eqb}
 use lib.ListN.{length, get_or, drop, drop_of_length-le}
 use lib.Seq.{drop-cons, drop-drop, get_or-drop}
-use borrow.Author.Tests.{ne_eqb}
 use Rattle.model.specs.Mask.{if}
 use Rattle.append.proofs.Appending.{Opens}
 use Rattle.template.specs.Template.{part, taken, filled}
 
 -- ---- one byte
--- it is none of the holes
-pub record Plain (b : ℕ) : Type 0 where
-  pub number : b ≡ code "#" → ⊥
-  pub hexadecimal : b ≡ code "%" → ⊥
-  pub variables : b ≡ code "@" → ⊥
-  pub states : b ≡ code "$" → ⊥
-  pub condition : b ≡ code "?" → ⊥
-
-module _ {b : ℕ} (p : Plain b) where
-  pub plain_part : (n m : ℕ) → part b n m ≡ b ∷ []
-  unfolding part if
-  plain_part n m = rw (ne_eqb b _ p.number, ne_eqb b _ p.hexadecimal, ne_eqb b _ p.variables, ne_eqb b _ p.states, ne_eqb b _ p.condition)
-
-  pub plain_taken : taken b ≡ 0
-  unfolding taken if
-  plain_taken = rw (ne_eqb b _ p.number, ne_eqb b _ p.hexadecimal, ne_eqb b _ p.variables, ne_eqb b _ p.states, ne_eqb b _ p.condition)
-
 -- a hole takes at most two numbers
 pub taken_few : (b : ℕ) → taken b ≤ 2
 unfolding taken if

@@ -7,7 +7,7 @@ ghost use Rattle.model.specs.Mask.{if};
 ghost use Rattle.append.specs.Appends.{Appends};
 ghost use Rattle.template.specs.Template as spec;
 
-use append::{put, put_bytes};
+use append::{put, put_all};
 
 // ---- bytes and numbers
 // These bytes, unless the test holds.
@@ -18,7 +18,7 @@ fn put_unless(text: &mut [u8], at: usize, test: bool, bytes: &[u8]) -> usize
     if test {
         return at;
     }
-    put_bytes(text, at, bytes)
+    put_all(text, at, bytes)
 }
 
 // 0 to 9, then A to F.
@@ -55,6 +55,7 @@ fn put_decimal(text: &mut [u8], at: usize, n: usize) -> usize
 
 // ---- words for the bits of masks
 // The word for number i, behind a space unless it is the first.
+#[tactic(auto, unfolding(crate::specs::Template::next, crate::specs::Template::literal))]
 fn put_literal(
     text: &mut [u8],
     at: usize,
@@ -68,7 +69,7 @@ fn put_literal(
 {
     let after_space = put_unless(text, at, is_first, b" ");
     let after_not = put_unless(text, after_space, is_on, b"!");
-    let after_sign = put_bytes(text, after_not, sign);
+    let after_sign = put_all(text, after_not, sign);
     put_decimal(text, after_sign, i)
 }
 
@@ -110,15 +111,13 @@ fn put_literals(
     let mut on_left = on;
     let mut off_left = off;
     let mut at = start;
-    let mut i: usize = 0;
-    while i < bits {
+    for i in 0..bits {
         at = put_bit(text, at, at == start, sign, on_left, off_left, i);
         on_left /= 2;
         off_left /= 2;
-        i += 1;
     }
     if at == start {
-        return put_bytes(text, at, none);
+        return put_all(text, at, none);
     }
     at
 }
@@ -128,10 +127,7 @@ fn put_literals(
 fn nth(numbers: &[usize], k: usize) -> usize
     ensures { result ≡ get_or numbers.now k 0 }
 {
-    if k < numbers.len() {
-        return numbers[k];
-    }
-    0
+    numbers.get(k).copied().unwrap_or(0)
 }
 
 // The text for one byte of a template, where n and m are the next numbers: `#` is a number, `%` a mask in hexadecimal, `@` its variables, `$` its
@@ -155,10 +151,7 @@ fn taken(byte: u8) -> usize
     ensures { result ≡ spec.taken byte }
 {
     match byte {
-        b'#' => 1,
-        b'%' => 1,
-        b'@' => 1,
-        b'$' => 1,
+        b'#' | b'%' | b'@' | b'$' => 1,
         b'?' => 2,
         _ => 0,
     }
@@ -171,12 +164,9 @@ pub fn put_filled(text: &mut [u8], start: usize, template: &[u8], numbers: &[usi
 {
     let mut at = start;
     let mut used: usize = 0;
-    let mut k: usize = 0;
-    while k < template.len() {
-        let byte = template[k];
+    for &byte in template {
         at = put_part(text, at, byte, nth(numbers, used), nth(numbers, used + 1));
         used += taken(byte);
-        k += 1;
     }
     at
 }

@@ -1,15 +1,14 @@
 -- The texts of numbers, processes and edges, one behind another: which is due next, and what is left behind it; and where the rows are.
-use mathlib.Core.Path.{◌≡◌}
+use mathlib.Core.Path.{◌≡◌, ap}
 use mathlib.Core.List.{List, []}
 use Prim.Native.Nat.{ℕ, suc, ◌+◌, ◌-◌, ◌<◌, ◌≤◌}
 use native.Mathlib.Numerals.{add-one}
 use native.Mathlib.Nat.{suc-mul}
 use native.Mathlib.Omega.{arith}
-use lib.ListN.{length, get_or, take, drop, length-take, length-drop}
+use lib.ListN.{length, get_or, take, drop}
 use lib.Seq.{drop-cons}
 use Rattle.model.specs.Sheet.{Process, Edge}
 use Rattle.model.specs.Compose.{row_length, row_at}
-use Rattle.model.proofs.ComposedNumbers.{row_pos}
 use Rattle.architecture.specs.Struct.{entries_of, process_in, first_in, processes_in}
 use Rattle.architecture.specs.declared.Architecture.{Architecture}
 use Rattle.architecture.proofs.ProcessesOfArrays.{start_next, process_next, processes_end}
@@ -51,6 +50,24 @@ module _ (one : ℕ → List ℕ) (n : ℕ) where
   unfolding each_from
   from_end x h = let e : n - x ≡ 0 = omega arith in rw e
 
+-- ---- the rows of process i, where `one` has the text of a state's row
+module _ (one : ℕ → List ℕ → List ℕ) (a : Architecture) (i : ℕ) (tables : List ℕ) where
+  -- the row of state x
+  abbrev row_in : ℕ → List ℕ
+  row_in = row_of (process_in a i) (entries_of (first_in a i)) tables
+
+  -- the text from state x on
+  abbrev pub rows_from : ℕ → List ℕ
+  rows_from = text_from (λ x. one x (row_in x)) (process_in a i).bound
+
+  -- state x, and those after it
+  pub rows_open : (x : ℕ) (row : List ℕ) → row ≡ row_in x → x < (process_in a i).bound → Opens (rows_from x) (one x row) (rows_from (x + 1))
+  rows_open x row is = from_open (λ x. one x (row_in x)) (process_in a i).bound x (one x row) (ap (one x) is)
+
+  -- no state is left
+  pub rows_none : (x : ℕ) → (process_in a i).bound ≤ x → rows_from x ≡ []
+  rows_none = from_end (λ x. one x (row_in x)) (process_in a i).bound
+
 -- ---- processes
 module _ (one : ℕ → Process → ℕ → List ℕ) (a : Architecture) where
   -- the text from process j on
@@ -88,7 +105,3 @@ module _ (ed ex : List ℕ) (u : Automaton) where
 -- the part that the code cuts out
 pub row_part : (p : Process) (at : ℕ) (c : List ℕ) (x from row : ℕ) → from ≡ row_at p at x → row ≡ row_length p → take (from + row - from) (drop from c) ≡ row_of p at c x
 row_part p at c x from row ef er = let e : from + row - from ≡ row_length p = omega arith in rw (e, ef)
-
--- it is not empty
-pub row_long : (p : Process) (at : ℕ) (c : List ℕ) (x : ℕ) → row_at p at x + row_length p ≤ length c → 0 < length (row_of p at c x)
-row_long p at c x h = simp (length-take, length-drop) (omega (arith, row_pos p))

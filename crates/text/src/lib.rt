@@ -1,18 +1,18 @@
 // What the programs print: the tables of a choice, the greatest number of an annotation, one of the short answers, or `refused` and the number.
 #![tactic(auto)]
 
-ghost use Rattle.std.specs.Prelude.{◌≡◌, ◌+◌, ◌<◌, ◌≤◌, max, length, get_or, drop};
-ghost use Rattle.theory.specs.Lists.{greatest as greatestOf};
+ghost use Rattle.std.specs.Prelude.{◌≡◌, ◌+◌, ◌<◌, ◌≤◌, length, get_or};
+ghost use Rattle.theory.specs.Lists.{greatest as greatest_of};
 ghost use Rattle.model.specs.Choice.{entries as entries_of};
 ghost use Rattle.model.specs.Numbers.{number};
 ghost use Rattle.architecture.specs.Struct.{IsProper, architecture_of, process_in, processes_in, first_in, entries_of as start_of};
-ghost use Rattle.automaton.specs.Struct.{Arrays, edge_of, first_in as edgesIn};
+ghost use Rattle.automaton.specs.Struct.{Arrays, edge_of, first_in as edges_in};
 ghost use Rattle.append.specs.Appends.{Appends};
 ghost use Rattle.template.specs.Holds.{Holds};
 ghost use Rattle.text.specs.Rows.{row_of, fields_text, edge_text, edges_text};
 ghost use Rattle.text.specs.Text as spec;
 
-use append::put_bytes;
+use append::put_all;
 use architecture::Architecture;
 use automaton::{Automaton, Edge};
 use model::{ProcessState, Refusal};
@@ -22,7 +22,7 @@ use template::put_filled;
 // The row of process i for its state x, a part of the tables.
 pub fn row_of(a: Architecture, i: usize, x: ProcessState, tables: &[u8]) -> &[u8]
     requires proper { IsProper a }
-    requires i_lt_processes { (i < a.processes) × (x.0 < get_or a.bounds i 0) }
+    requires i_lt_processes { (i < a.processes) × (x.0 < (process_in a i).bound) }
     requires a_in_bounds { length (entries_of (architecture_of a)) ≤ length tables.now }
     ensures result_value { result.now ≡ row_of (process_in a i) (start_of (first_in a i)) tables.now x.0 }
     ensures result_nonzero { 0 < length result.now }
@@ -40,16 +40,14 @@ pub fn put_field(text: &mut [u8], at: usize, x: ProcessState) -> usize
     put_filled(text, at, b" #", &[x.0 as usize])
 }
 
-// The next states of a row, which stand behind its output mask. They are bytes, and each is made a process state here.
-fn put_next(text: &mut [u8], start: usize, row: &[u8]) -> usize
-    requires { start + length (spec.fields (drop 1 row.now)) ≤ length text.old }
-    ensures { Appends text.old start (spec.fields (drop 1 row.now)) result text.new }
+// The next states of a row. They are bytes, and each is made a process state here.
+fn put_next(text: &mut [u8], start: usize, next: &[u8]) -> usize
+    requires { start + length (spec.fields next.now) ≤ length text.old }
+    ensures { Appends text.old start (spec.fields next.now) result text.new }
 {
     let mut at = start;
-    let mut k: usize = 1;
-    while k < row.len() {
-        at = put_field(text, at, ProcessState(row[k]));
-        k += 1;
+    for &x in next {
+        at = put_field(text, at, ProcessState(x));
     }
     at
 }
@@ -63,17 +61,18 @@ fn put_head(text: &mut [u8], at: usize, i: usize, x: ProcessState, mask: u8) -> 
 }
 
 // The row of process i for its state x.
+#[tactic(auto, unfolding(crate::specs::Text::row_text))]
 fn put_row(text: &mut [u8], at: usize, i: usize, x: ProcessState, row: &[u8]) -> usize
     requires row_in_bounds { at + length (spec.row_text i x.0 row.now) ≤ length text.old }
     requires row_nonzero { 0 < length row.now }
     ensures { Appends text.old at (spec.row_text i x.0 row.now) result text.new }
 {
     let after_head = put_head(text, at, i, x, row[0]);
-    let after_next = put_next(text, after_head, row);
-    put_bytes(text, after_next, b"\n")
+    let after_next = put_next(text, after_head, &row[1..]);
+    put_all(text, after_next, b"\n")
 }
 
-// All rows of process i. The counter runs up to the bound, and is made a process state for each row.
+// All rows of process i: each number below the bound is made a process state.
 fn put_rows(text: &mut [u8], start: usize, a: Architecture, i: usize, tables: &[u8]) -> usize
     requires proper { IsProper a }
     requires i_lt_processes { i < a.processes }
@@ -81,13 +80,10 @@ fn put_rows(text: &mut [u8], start: usize, a: Architecture, i: usize, tables: &[
     requires i_in_bounds { start + length (spec.rows_text tables.now i (process_in a i) (start_of (first_in a i))) ≤ length text.old }
     ensures { Appends text.old start (spec.rows_text tables.now i (process_in a i) (start_of (first_in a i))) result text.new }
 {
-    let bound = a.bound_of(i);
     let mut at = start;
-    let mut x: usize = 0;
-    while x < bound {
+    for x in 0..a.bound_of(i) {
         let state = ProcessState(x as u8);
         at = put_row(text, at, i, state, row_of(a, i, state, tables));
-        x += 1;
     }
     at
 }
@@ -99,12 +95,9 @@ fn put_tables(text: &mut [u8], start: usize, a: Architecture, tables: &[u8]) -> 
     requires tables_in_bounds { start + length (spec.tables_text (processes_in a) tables.now) ≤ length text.old }
     ensures { Appends text.old start (spec.tables_text (processes_in a) tables.now) result text.new }
 {
-    let n = a.processes;
     let mut at = start;
-    let mut i: usize = 0;
-    while i < n {
+    for i in 0..a.processes {
         at = put_rows(text, at, a, i, tables);
-        i += 1;
     }
     at
 }
@@ -142,15 +135,12 @@ fn put_edge(text: &mut [u8], at: usize, ed: &[u8], ex: &[u8], edge: Edge) -> usi
 // All edges, each by the template of its kind.
 pub fn put_edges(text: &mut [u8], start: usize, ed: &[u8], ex: &[u8], u: Automaton) -> usize
     requires arrays { Arrays u }
-    requires edges_in_bounds { start + length (edges_text ed.now ex.now (edgesIn u u.edges)) ≤ length text.old }
-    ensures { Appends text.old start (edges_text ed.now ex.now (edgesIn u u.edges)) result text.new }
+    requires edges_in_bounds { start + length (edges_text ed.now ex.now (edges_in u u.edges)) ≤ length text.old }
+    ensures { Appends text.old start (edges_text ed.now ex.now (edges_in u u.edges)) result text.new }
 {
-    let n = u.edges;
     let mut at = start;
-    let mut i: usize = 0;
-    while i < n {
+    for i in 0..u.edges {
         at = put_edge(text, at, ed, ex, u.edge(i));
-        i += 1;
     }
     at
 }
@@ -161,38 +151,22 @@ fn row_count(a: Architecture) -> usize
     requires { IsProper a }
     ensures { result ≡ spec.row_count (processes_in a) }
 {
-    let n = a.processes;
     let mut rows: usize = 0;
-    let mut i: usize = 0;
-    while i < n {
+    for i in 0..a.processes {
         rows += a.bound_of(i);
-        i += 1;
     }
     rows
 }
 
-// The greater of the two, where a blank counts for nothing.
-fn greater(most: u16, number: u16) -> u16
-    ensures { result ≡ max most (spec.unblank number) }
-{
-    if number == 65535 {
-        return most;
-    }
-    if number < most {
-        return most;
-    }
-    number
-}
-
-// The greatest number of an annotation.
+// The greatest number of an annotation, where a blank counts for nothing.
 fn greatest(annotation: &[u16]) -> u16
-    ensures { result ≡ greatestOf spec.unblank annotation.now }
+    ensures { result ≡ greatest_of spec.unblank annotation.now }
 {
     let mut most: u16 = 0;
-    let mut k: usize = 0;
-    while k < annotation.len() {
-        most = greater(most, annotation[k]);
-        k += 1;
+    for &number in annotation {
+        if number != 65535 {
+            most = most.max(number);
+        }
     }
     most
 }
@@ -207,6 +181,7 @@ fn put_greatest(text: &mut [u8], at: usize, annotation: &[u16]) -> usize
 
 // ---- the texts, each at the front of a buffer with room for it: the functions answer its length
 // The tables, between their count and the greatest number.
+#[tactic(auto, unfolding(crate::specs::Text::text_of, architecture::specs::Struct::architecture_of))]
 fn put_text(text: &mut [u8], a: Architecture, tables: &[u8], annotation: &[u16]) -> usize
     requires proper { IsProper a }
     requires a_in_bounds { length (entries_of (architecture_of a)) ≤ length tables.now }
@@ -241,7 +216,7 @@ pub fn answer_text(text: &mut [u8], answer: &[u8]) -> usize
     requires { length answer.now ≤ length text.old }
     ensures { Holds text.new result answer.now }
 {
-    put_bytes(text, 0, answer)
+    put_all(text, 0, answer)
 }
 
 // `refused` and the number.

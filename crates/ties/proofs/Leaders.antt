@@ -11,6 +11,7 @@ use lib.Dec.{eqb}
 use lib.ListN.{length, get_or, take, length-map}
 use lib.Seq.{get_or-take}
 use borrow.Author.Tests.{eqb-true, eq-eqb}
+use Rattle.std.proofs.lemmas.List.{take-map}
 use Rattle.theory.specs.Lists.{from}
 use Rattle.theory.proofs.ListLaws.{map_there, from_long, from_at}
 use Rattle.model.specs.Mask.{if}
@@ -235,11 +236,6 @@ module _ (n : ℕ) (ts : List Tie) (there : AllThere n ts) where
       zero_plus i = omega arith
 
 -- ---- an array of leaders with room for more processes
-map_take : (h : ℕ → ℕ) (n : ℕ) (xs : List ℕ) → take n (map h xs) ≡ map h (take n xs)
-map_take h zero xs = refl
-map_take h (suc n) [] = refl
-map_take h (suc n) (x ∷ xs) = ap (λ (r : List ℕ). h x ∷ r) (map_take h n xs)
-
 from_take : (n m i : ℕ) → n ≤ m → take n (from m i) ≡ from n i
 unfolding from
 from_take zero m i l = refl
@@ -249,7 +245,7 @@ from_take (suc n) (suc m) i l = ap (λ (r : List ℕ). i ∷ r) (from_take n m (
 join_take : (n : ℕ) (ls : List ℕ) (t : Tie) → There n t → take n (join ls t) ≡ join (take n ls) t
 unfolding join
 join_take n ls t there =
-    map_take (instead (max (get_or ls t.left 0) (get_or ls t.right 0)) (min (get_or ls t.left 0) (get_or ls t.right 0))) n ls
+    take-map (instead (max (get_or ls t.left 0) (get_or ls t.right 0)) (min (get_or ls t.left 0) (get_or ls t.right 0))) n ls
     ∙ ap₂ (λ (a b : ℕ). map (instead (max a b) (min a b)) (take n ls)) (sym (get_or-take n ls t.left 0 there.0)) (sym (get_or-take n ls t.right 0 there.1))
 
 all_take : (n : ℕ) (ls : List ℕ) (ts : List Tie) → AllThere n ts → take n (join_all ls ts) ≡ join_all (take n ls) ts

@@ -10,7 +10,7 @@ use Rattle.theory.specs.Lists.{from}
 use Rattle.model.specs.Compose.{process_length}
 use Rattle.model.specs.Choice.{entries, begins}
 use Rattle.architecture.specs.declared.Architecture.{Architecture}
-use Rattle.architecture.specs.Struct.{IsProper, architecture_of, process_in, processes_in, first_in, entries_of, tie_of, ties_of, ties_in}
+use Rattle.architecture.specs.Struct.{IsProper, architecture_of, process_in, processes_in, first_in, entries_of, tie_in, ties_in}
 use Rattle.architecture.proofs.ProcessesOfArrays.{processes_length, process_next, processes_end, tie_next, ties_end}
 use Rattle.choice.proofs.KindWords.{entries_few}
 use Rattle.append.proofs.Appending.{Opens}
@@ -21,25 +21,22 @@ use Rattle.ties.proofs.Entries.{entry_leaders_long, leader_low}
 use Rattle.ties.proofs.TablesOfArrays.{begins_are}
 
 -- ---- one tie after the other
-pub join_turn : (ls l r : List ℕ) (n k : ℕ) → k < n → join_all ls (drop k (ties_of n l r)) ≡ join_all (join ls (tie_of l r k)) (drop (k + 1) (ties_of n l r))
+pub join_turn : (ls : List ℕ) (a : Architecture) (k : ℕ) → k < a.ties → join_all ls (drop k (ties_in a)) ≡ join_all (join ls (tie_in a k)) (drop (k + 1) (ties_in a))
 unfolding join_all
-join_turn ls l r n k h = rw (tie_next l r n k h)
+join_turn ls a k h = rw (tie_next a.tie_list a.ties k h)
 
-pub join_done : (ls l r : List ℕ) (n k : ℕ) → k ≡ n → join_all ls (drop k (ties_of n l r)) ≡ ls
+pub join_done : (ls : List ℕ) (a : Architecture) (k : ℕ) → k ≡ a.ties → join_all ls (drop k (ties_in a)) ≡ ls
 unfolding join_all
-join_done ls l r n k e = rw (e, ties_end l r n)
+join_done ls a k e = rw (e, ties_end a.tie_list a.ties)
 
 -- ---- one number after the other
-pub from_open : (n i k : ℕ) → k < n → Opens (from (n - k) (i + k)) ((i + k) ∷ []) (from (n - (k + 1)) (i + (k + 1)))
+pub from_open : (end i : ℕ) → i < end → Opens (from (end - i) i) (i ∷ []) (from (end - (i + 1)) (i + 1))
 unfolding from
-from_open n i k h =
-    let e : n - k ≡ suc (n - (k + 1)) = omega arith in
-    let q : i + (k + 1) ≡ suc (i + k) = omega arith in
-    record { is = rw (e, q) }
+from_open end i h = let e : end - i ≡ suc (end - (i + 1)) = omega arith in record { is = rw (e, add-one i) }
 
-pub from_end : (n i k : ℕ) → n ≤ k → from (n - k) (i + k) ≡ []
+pub from_end : (end i : ℕ) → end ≤ i → from (end - i) i ≡ []
 unfolding from
-from_end n i k h = let e : n - k ≡ 0 = omega arith in rw e
+from_end end i h = let e : end - i ≡ 0 = omega arith in rw e
 
 -- ---- one process after the other
 -- the leaders of the entries of the processes from i on

@@ -6,8 +6,6 @@ pub mod Entries
 pub mod SetGroup
 pub mod Groups
 pub mod KindValues
-pub mod TablesByPlace
 pub mod TablesOfArrays
-pub mod Joining
 pub mod LeadersOfArrays
 pub mod FollowersBack

@@ -14,7 +14,7 @@ use Rattle.model.specs.Compose.{process_length}
 use Rattle.model.specs.Choice.{Entry, next, entries, begins, length_of, packed_value, packed_at, table_of, kept}
 use Rattle.model.proofs.Places.{length_is, shape_length}
 use Rattle.architecture.specs.declared.Architecture.{Architecture}
-use Rattle.architecture.specs.Struct.{IsProper, architecture_of, process_in, processes_in, processes_of, first_in, tie_of, ties_in, entries_of}
+use Rattle.architecture.specs.Struct.{IsProper, architecture_of, process_in, processes_in, processes_of, first_in, tie_in, ties_in, entries_of}
 use Rattle.architecture.proofs.ProcessesOfArrays.{processes_at, processes_length, entries_are, entries_snoc, start_few, starts_at, start_next, tie_next, ties_end, tie_has}
 use Rattle.choice.specs.Kinds.{kind_of, kinds_of}
 use Rattle.ties.specs.Tables.{packed_in, table_in}
@@ -67,20 +67,20 @@ module _ (a : Architecture) (t : Tie) (proper : ProperTie (processes_in a) t) wh
       ∙ ap process_length (process_there a t.right tie_right)
 
 -- tie k of the arrays
-pub tie_proper : (a : Architecture) → IsProper a → (k : ℕ) → k < a.ties → ProperTie (processes_in a) (tie_of a.lefts a.rights k)
+pub tie_proper : (a : Architecture) → IsProper a → (k : ℕ) → k < a.ties → ProperTie (processes_in a) (tie_in a k)
 unfolding architecture_of
-tie_proper a z k h = z.proper.front.ties_proper (tie_of a.lefts a.rights k) (tie_has a.lefts a.rights a.ties k h)
+tie_proper a z k h = z.proper.front.ties_proper (tie_in a k) (tie_has a.tie_list a.ties k h)
 
 -- ---- the test of all ties, from tie k on and from the next on
 module _ (a : Architecture) (p : Tie → Bool) where
-  pub ties_turn : (k : ℕ) → k < a.ties → all p (drop k (ties_in a)) ≡ (p (tie_of a.lefts a.rights k) && all p (drop (k + 1) (ties_in a)))
+  pub ties_turn : (k : ℕ) → k < a.ties → all p (drop k (ties_in a)) ≡ (p (tie_in a k) && all p (drop (k + 1) (ties_in a)))
   unfolding all
-  ties_turn k h = rw (tie_next a.lefts a.rights a.ties k h)
+  ties_turn k h = rw (tie_next a.tie_list a.ties k h)
 
   -- behind the last
   pub ties_done : (k : ℕ) → k ≡ a.ties → all p (drop k (ties_in a)) ≡ true
   unfolding all
-  ties_done k e = rw (e, ties_end a.lefts a.rights a.ties)
+  ties_done k e = rw (e, ties_end a.tie_list a.ties)
 
 -- ---- the words of the entries
 module _ (a : Architecture) (kinds tables : List ℕ) (long : length (entries (architecture_of a)) ≤ length kinds)

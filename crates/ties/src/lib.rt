@@ -1,7 +1,7 @@
 // Ties: tied processes share one table.
 #![tactic(auto)]
 
-ghost use Rattle.std.specs.Prelude.{◌≡◌, ◌+◌, ◌/◌, ◌%◌, ◌^◌, ◌<◌, ◌≤◌, min, max, length, take};
+ghost use Rattle.std.specs.Prelude.{◌≡◌, ◌+◌, ◌/◌, ◌%◌, ◌^◌, ◌<◌, ◌≤◌, length, take};
 ghost use Rattle.theory.specs.Lists.{from, same};
 ghost use Rattle.model.specs.Sheet.{ProperTie};
 ghost use Rattle.model.specs.Compose.{process_length};
@@ -33,14 +33,12 @@ pub fn unpack(mask: u8, index: usize) -> u8
     let mut w = index;
     let mut v: usize = 0;
     let mut weight: usize = 1;
-    let mut i: usize = 0;
-    while i < 8 {
+    for _ in 0..u8::BITS {
         let has = lowest(m);
         v += weight * (has * (w % 2));
         weight *= 2;
         w /= 1 + has;
         m >>= 1;
-        i += 1;
     }
     v as u8
 }
@@ -84,18 +82,11 @@ fn packed_at(kinds: &[u16], tables: &[u8], k: usize) -> usize
 
 // The packed values of the n entries from `left` on are those of the n from `right` on.
 fn are_alike(kinds: &[u16], tables: &[u8], left: usize, right: usize, n: usize) -> bool
-    requires n_in_bounds { (left + n ≤ length kinds.now) × (left + n ≤ length tables.now) }
-    requires n_in_bounds_2 { (right + n ≤ length kinds.now) × (right + n ≤ length tables.now) }
+    requires left_in_bounds { (left + n ≤ length kinds.now) × (left + n ≤ length tables.now) }
+    requires right_in_bounds { (right + n ≤ length kinds.now) × (right + n ≤ length tables.now) }
     ensures { result ≡ same (table_in kinds.now tables.now n left) (table_in kinds.now tables.now n right) }
 {
-    let mut j: usize = 0;
-    while j < n {
-        if packed_at(kinds, tables, left + j) != packed_at(kinds, tables, right + j) {
-            return false;
-        }
-        j += 1;
-    }
-    true
+    (0..n).all(|j| packed_at(kinds, tables, left + j) == packed_at(kinds, tables, right + j))
 }
 
 // How many entries process i has.
@@ -111,7 +102,7 @@ fn length_of(a: Architecture, i: usize) -> usize
 fn is_kept(kinds: &[u16], tables: &[u8], a: Architecture, left: usize, right: usize) -> bool
     requires proper { IsProper a }
     requires in_bounds { (272 ≤ length kinds.now) × (272 ≤ length tables.now) }
-    requires a_value { kinds_of kinds.now (length (entries (architecture_of a))) ≡ entries (architecture_of a) }
+    requires kinds_known { kinds_of kinds.now (length (entries (architecture_of a))) ≡ entries (architecture_of a) }
     requires proper_tie { ProperTie (processes_in a) (record { left = left; right = right }) }
     ensures { result ≡ kept (architecture_of a) tables.now (record { left = left; right = right }) }
 {
@@ -128,18 +119,13 @@ fn is_kept(kinds: &[u16], tables: &[u8], a: Architecture, left: usize, right: us
 fn keeps_ties(kinds: &[u16], tables: &[u8], a: Architecture) -> bool
     requires proper { IsProper a }
     requires in_bounds { (272 ≤ length kinds.now) × (272 ≤ length tables.now) }
-    requires a_value { kinds_of kinds.now (length (entries (architecture_of a))) ≡ entries (architecture_of a) }
+    requires kinds_known { kinds_of kinds.now (length (entries (architecture_of a))) ≡ entries (architecture_of a) }
     ensures { result ≡ keeps_ties (architecture_of a) tables.now }
 {
-    let lefts = a.lefts;
-    let rights = a.rights;
-    let n = a.ties;
-    let mut k: usize = 0;
-    while k < n {
-        if !is_kept(kinds, tables, a, lefts[k] as usize, rights[k] as usize) {
+    for tie in &a.tie_list[..a.ties] {
+        if !is_kept(kinds, tables, a, tie.left as usize, tie.right as usize) {
             return false;
         }
-        k += 1;
     }
     true
 }
@@ -151,27 +137,10 @@ pub fn entry_fault(a: Architecture, tables: &[u8; 272]) -> bool
 {
     let mut kinds = [0u16; 272];
     let n = choice::fill_kinds(&mut kinds, a);
-    if choice::is_misfit(&kinds, n, tables) {
-        return true;
-    }
-    !keeps_ties(&kinds, tables, a)
+    choice::is_misfit(&kinds, n, tables) || !keeps_ties(&kinds, tables, a)
 }
 
 // ---- leaders of processes
-// The lower of two.
-fn lower(a: u8, b: u8) -> u8
-    ensures { result ≡ min a b }
-{
-    if a <= b { a } else { b }
-}
-
-// The higher of two.
-fn higher(a: u8, b: u8) -> u8
-    ensures { result ≡ max a b }
-{
-    if a <= b { b } else { a }
-}
-
 // In place of `old`, `new`.
 fn instead(old: u8, new: u8, x: u8) -> u8
     ensures { result ≡ lead.instead old new x }
@@ -186,15 +155,9 @@ fn join(old: [u8; 4], left: usize, right: usize) -> [u8; 4]
 {
     let a = old[left];
     let b = old[right];
-    let low = lower(a, b);
-    let high = higher(a, b);
-    let mut new = old;
-    let mut i: usize = 0;
-    while i < 4 {
-        new[i] = instead(high, low, new[i]);
-        i += 1;
-    }
-    new
+    let low = a.min(b);
+    let high = a.max(b);
+    old.map(|x| instead(high, low, x))
 }
 
 // The leader of each process: at first its own, then one tie after the other.
@@ -202,15 +165,11 @@ pub fn process_leaders(a: Architecture) -> [u8; 4]
     requires { IsProper a }
     ensures { result ≡ lead.leaders 4 (ties_in a) }
 {
-    let lefts = a.lefts;
-    let rights = a.rights;
-    let n = a.ties;
-    let mut leaders: [u8; 4] = [0, 1, 2, 3];
-    let mut k: usize = 0;
-    while k < n {
-        let joined = join(leaders, lefts[k] as usize, rights[k] as usize);
+    let mut leaders = [0, 1, 2, 3];
+    for tie in &a.tie_list[..a.ties] {
+        // A result is not laid in an array that stands already.
+        let joined = join(leaders, tie.left as usize, tie.right as usize);
         leaders = joined;
-        k += 1;
     }
     leaders
 }
@@ -222,10 +181,8 @@ fn put_from(words: &mut [u16], start: usize, first: usize, count: usize) -> usiz
     ensures { Appends words.old start (from count first) result words.new }
 {
     let mut at = start;
-    let mut k: usize = 0;
-    while k < count {
-        at = append::word(words, at, (first + k) as u16);
-        k += 1;
+    for number in first..first + count {
+        at = append::put(words, at, number as u16);
     }
     at
 }
@@ -238,17 +195,15 @@ pub fn fill_leaders(leaders: &mut [u16; 272], a: Architecture)
     ensures leaders_len_2 { length leaders.new ≡ 272 }
 {
     let own = process_leaders(a);
-    let n = a.processes;
-    let mut at: usize = 0;
-    let mut i: usize = 0;
-    while i < n {
+    let mut at = 0;
+    for i in 0..a.processes {
         at = put_from(leaders, at, a.start(own[i] as usize), length_of(a, i));
-        i += 1;
     }
 }
 
 // ---- the next entry of a group
-// For each of the first n entries, the next one with its leader, or n. From the last to the first, with the last place seen of each leader.
+// For each of the first n entries, the next one with its leader, or n, and no Option: `NextInGroup`, of which the contract speaks, has this form.
+// From the last to the first, with the last place seen of each leader.
 pub fn fill_followers(followers: &mut [u16; 272], leaders: &[u16; 272], n: usize)
     requires followers_len { (length followers.old ≡ 272) × (length leaders.now ≡ 272) × (n ≤ 272) }
     requires leaders_inside { LeadersInside n leaders.now }
@@ -256,9 +211,7 @@ pub fn fill_followers(followers: &mut [u16; 272], leaders: &[u16; 272], n: usize
     ensures followers_len_2 { length followers.new ≡ 272 }
 {
     let mut last = [n as u16; 272];
-    let mut k = n;
-    while 0 < k {
-        k -= 1;
+    for k in (0..n).rev() {
         let l = leaders[k] as usize;
         followers[k] = last[l];
         last[l] = k as u16;

@@ -2,12 +2,15 @@
 use Rattle.std.proofs.Common.{refl, sym, ap, ◌∙◌, ℕ, ◌≤◌, length, replicate, arith}
 use lib.ListN.{length-replicate}
 use Rattle.template.proofs.FilledShort.{text_length}
-use Rattle.model.specs.declared.Finding.{Finding}
-use Rattle.model.specs.declared.Verdict.{Verdict}
 use Rattle.model.specs.Calls.{annotate_of}
 use Rattle.annotate.specs.Printed.{annotation₀, path₀, left}
 use Rattle.annotate.proofs.AnnotatedBuffer.{left_so}
 use Rattle.annotate.proofs.answer.Goals as goal
+use Rattle.std.specs.Prelude.{◌≡◌, Result, Ok}
+use Rattle.model.specs.declared.Refusal.{Refusal}
+use Rattle.judging.specs.declared.Annotated.{Annotated}
+use Rattle.judging.specs.declared.Annotated.TheVariants.{Keeps}
+use Rattle.judging.specs.Answers.{verdict_of}
 
 -- the buffer of the text: stated for every length, since so long a row is not to be written out
 roomy : (n : ℕ) → n ≤ length (replicate {A = ℕ} n 0)
@@ -54,13 +57,12 @@ slice_bounds-put_out-end-2 g c = text_length c.verdict_text-end.ensures
 pub put_out-requires : goal.put_out-requires
 put_out-requires g c = record { annotate_path = c.annotate-done.ensures.annotate_path; text_value = c.verdict_text-end.ensures.is }
 
--- `Finding::Yes => save_annotation(rt, sheet, book, &annotation)`
+-- `Ok(Annotated::Keeps) => save_annotation(rt, sheet, book, &annotation)`
 pub slice_bounds-save_annotation-end : goal.slice_bounds-save_annotation-end
 slice_bounds-save_annotation-end g c = sym c.annotate-done.auto.annotation
 
--- `Finding::Yes => save_annotation(rt, sheet, book, &annotation)`
 pub save_annotation-requires : goal.save_annotation-requires
 save_annotation-requires g c =
-    let yes = c.in-Found.is ∙ ap (λ (x : Finding). Verdict.Found x) c.in-Yes.is in
+    let keeps : c.annotate-done.result ≡ Ok Keeps = c.in-Ok-Keeps.is ∙ ap (λ (x : Annotated). Ok x) (rw c.in-Ok-Keeps.is at c.in-Ok-Keeps.field-0-is) in
     left_so (annotate_of c.args.sheet.now c.args.book.now annotation₀ path₀) _ _ c.annotate-done.ensures.verdict_value c.annotate-done.ensures.annotation_after
-    ∙ ap (λ (v : Verdict). left v c.annotate-done.new.annotation) yes
+    ∙ ap (λ (v : Result Annotated Refusal). left (verdict_of v) c.annotate-done.new.annotation) keeps

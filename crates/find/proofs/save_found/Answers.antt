@@ -1,19 +1,13 @@
 -- `find::save_found` is safe: find read a proper sheet.
-use Rattle.model.proofs.ProperSheet.{sheet_proper}
-use Rattle.find.specs.Printed.{book₀, annotation₀}
-use Rattle.find.proofs.FoundBuffers.{found_proper}
+use Rattle.find.proofs.FoundBuffers.{reread_ok, reread}
 use Rattle.find.proofs.save_found.Goals as goal
 
--- `save_choice(rt, read, book, annotation)`
-pub save_choice-requires-clause-proper : goal.save_choice-requires-clause-proper
-save_choice-requires-clause-proper g c =
-    let r = c.read-reading in
-    let s = found_proper c.args.sheet.now book₀ annotation₀ _ _ r.result r.ensures.result_value c.requires in
-    record { arrays = r.ensures.arrays; proper = sheet_proper _ _ s.is }
+-- `let read = sheet::read(sheet).unwrap()`
+pub unwrap-read-requires : goal.unwrap-read-requires
+unwrap-read-requires g c = reread_ok _ _ _ _ _ c.requires c.read.result c.read.ensures.result_value
 
 -- `save_choice(rt, read, book, annotation)`
-pub save_choice-requires-clause-fact : goal.save_choice-requires-clause-fact
-save_choice-requires-clause-fact g c =
-    let r = c.read-reading in
-    let s = found_proper c.args.sheet.now book₀ annotation₀ _ _ r.result r.ensures.result_value c.requires in
-    s.finds
+pub save_choice-requires : goal.save_choice-requires
+save_choice-requires g c =
+    let r = reread _ _ _ _ _ c.requires c.read.result _ c.read.ensures.result_value c.read.ensures.arrays c.unwrap-read.ensures in
+    record { proper = r.is_proper; fact = r.finds }

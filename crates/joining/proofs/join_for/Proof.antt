@@ -6,7 +6,6 @@ use Prim.Native.Nat.{ℕ, ◌+◌, ◌*◌, ◌≤◌}
 use native.Mathlib.Omega.{arith}
 use lib.ListN.{length, take}
 use borrow.Author.Rules.{rules}
-use Rattle.model.specs.declared.Written.{Written}
 use Rattle.model.specs.Sheet as model
 use Rattle.model.specs.Reading.{EN}
 use Rattle.model.specs.SheetFile.{automaton_bytes, records_bytes, sheet_bytes}
@@ -24,6 +23,8 @@ use Rattle.joining.proofs.FrontLength.{front_taken, front_fits}
 use Rattle.joining.proofs.JoinAnswers.{sheet_long, differing, too_large, too_short, written}
 use Rattle.joining.proofs.join_for.Statement.{statement}
 use Rattle.joining.proofs.join_for.Tie as tie
+use Rattle.std.specs.Prelude.{Result, Ok}
+use Rattle.model.specs.declared.Refusal.{Refusal}
 
 -- ---- the two sheets
 module _ (b : tie.Start) where
@@ -87,7 +88,7 @@ module _ (c : tie.After-front_length-front) where
 differ-requires : tie.Need-differ-requires
 differ-requires c κs = search rules
 
--- `return Written::Refused(Refusal::FrontsDiffer)`
+-- `return Err(Refusal::FrontsDiffer)`
 returns : tie.Need-returns-then-differ
 returns c =
     let d = c.before in
@@ -99,7 +100,7 @@ returns c =
 are-too-large-requires : tie.Need-are_too_large-requires
 are-too-large-requires c κs = let b = entry c.before.before.before in (first-proper b, second-proper b)
 
--- `return Written::Refused(Refusal::JoinTooLarge)`
+-- `return Err(Refusal::JoinTooLarge)`
 returns-2 : tie.Need-returns-then-are_too_large
 returns-2 c =
     let d = first-test c.before in
@@ -129,7 +130,7 @@ mul-if3 c = omega (arith, c.join_automata-joined.ensures.1.few_edges)
 add-if3-2 : tie.Need-overflow_add-front-2
 add-if3-2 c = omega (arith, counted c.before, short c.before)
 
--- `return Written::Refused(Refusal::BufferTooShort)`
+-- `return Err(Refusal::BufferTooShort)`
 returns-3 : tie.Need-returns-then-sheet-front
 returns-3 c =
     let f = c.before.before in
@@ -151,18 +152,18 @@ put-sheet-requires c κs =
     let f = c.before.before.before in
     (f.join_automata-joined.ensures.1, omega (arith, ap length (parts f), counted f, c.if-sheet-front.false))
 
--- `Written::Length(length as u16)`
+-- `Ok(length as u16)`
 cast-t25 : tie.Need-overflow_cast-result
 cast-t25 c =
     let p = c.before.before in
     let f = p.before.before.before.before in
     omega (arith, p.put_sheet-length.ensures.ends, ap length (parts f), short f)
 
--- `Written::Length(length as u16)`
+-- `Ok(length as u16)`
 same_length : tie.Need-shape_of-sheet
 same_length c = search rules
 
--- `Written::Length(length as u16)`
+-- `Ok(length as u16)`
 returns-4 : tie.Need-returns
 unfolding front
 returns-4 c =
@@ -174,7 +175,7 @@ returns-4 c =
     let due = written (s b) (t b) b.args.sheet.now (same-fronts (first-test e₂.before)) (fits e₂) room in
     let own = subst (λ (x : List ℕ). Appends b.args.sheet.now 0 x p.put_sheet-length.result p.put_sheet-length.new.sheet) (parts f) p.put_sheet-length.ensures in
     let long : p.put_sheet-length.result ≡ length (new f) = omega (arith, own.ends) in (
-      ap Written.Length long ∙ sym (ap (λ (x : AfterSheet). x.answer) due),
+      ap Ok long ∙ sym (ap (λ (x : AfterSheet). x.answer) due),
       append_front (λ (k : ℕ). new f) 0 0 refl own ∙ sym (ap (λ (x : AfterSheet). x.sheet) due),
     )
 

@@ -15,7 +15,7 @@ use Rattle.ties.specs.Groups.{set_group}
 use Rattle.exploration.specs.Prepared.{Prepared}
 use Rattle.search.specs.Choices.{Grouped, group_at, Ready, opens}
 use Rattle.search.specs.Answers.{NoChoice, Found}
-use Rattle.search.proofs.OneGroup.{trying_none, trying_more, ButGroup, but_settled, but_long}
+use Rattle.search.proofs.OneGroup.{trying_more, trying_not, chosen_at, ButGroup, but_settled, but_long}
 use Rattle.search.proofs.OneGroup.{Opened, opened_of, words_are, marks_are, leads_word, opens_fewer, values_back, unset_back, Put}
 use Rattle.search.proofs.OneGroup.{set_ready, found_wider, all_tried}
 use Rattle.search.proofs.+search.Goals as goal
@@ -36,15 +36,35 @@ module _ {a : Architecture} {values unset fixed groups : List ℕ} {l n : ℕ} (
   marked w xs same = ap (λ (m : ℕ). set_group (λ i. w) (take m groups) l xs) count ∙ marks_are o w xs ∙ same (λ i. w)
 
 -- ---- answers
--- `return Searched::Nothing`: an entry is open
+-- `Explored::Loop`, `Explored::Keeps`
+pub returns-in-Loop-clause-finds : goal.returns-in-Loop-clause-finds
+returns-in-Loop-clause-finds t c = record {
+  none_keeps = λ d choice agrees. c.in-Loop.ensures.explored_says d record { tables = choice.tables; agrees = agrees };
+  same_values = refl;
+  same_unset = refl;
+}
+
+pub returns-in-Keeps-clause-finds : goal.returns-in-Keeps-clause-finds
+returns-in-Keeps-clause-finds t c =
+    let a = architecture_of c.args.sheet.architecture in
+    let ready = c.requires.ready in
+    let own = λ (k : ℕ) (h : k < length (entries a)) (z : get_or c.args.unset.now k 0 ≡ 0). chosen_at a c.args.values.now k h in
+    record {
+      witness = record { long = ready.values_long; choice = ready.choice; keeps = c.in-Keeps.ensures.explored_says _ record { tables = ready.choice.tables; agrees = own } };
+      agrees = own;
+    }
+
+-- `return Found::Nothing`: an entry is open
 pub returns-then-left-eq0-clause-finds : goal.returns-then-left-eq0-clause-finds
 returns-then-left-eq0-clause-finds t c =
     let o = opened c.requires.prepared c.requires.grouped.0 c.requires.ready c.in-Needs.ensures.explored_says in
     absurd (omega (arith, opens_fewer o, c.if-left-eq0.true, c.requires.architecture_bound))
 
--- `while v < 256`
-pub loop-v-init : goal.loop-v-init
-loop-v-init t c = record { tried = trying_none _ _ _ c.next_value-v.ensures; values_same = λ f. refl; unset_same = λ f. refl; work = c.explore-explored.ensures.work_2 }
+-- `continue`
+pub loop-v-preserved-then-not-may_be : goal.loop-v-preserved-then-not-may_be
+loop-v-preserved-then-not-may_be t c =
+    let i = c.loop-v.invariant in
+    record { tried = trying_not _ _ _ i.tried (sym c.may_be.ensures ∙ c.if-not-may_be.true); values_same = i.values_same; unset_same = i.unset_same; work = i.work }
 
 -- `settle_group(values, unset, fixed, groups, n, l, v as u8, 0)`: the arrays keep their lengths
 pub settle_group-requires-clause-values_len : goal.settle_group-requires-clause-values_len
@@ -66,12 +86,12 @@ search-found-requires t c =
     let i = c.loop-v.invariant in
     let values = c.settle_group.ensures.values_after ∙ put o c.requires.grouped.1 c.loop-v.v c.loop-v.values i.values_same in
     let unset = c.settle_group.ensures.unset_after ∙ marked o c.requires.grouped.1 0 c.loop-v.unset i.unset_same in
-    let ready = subst₂ (Ready a) (sym values) (sym unset) (set_ready o c.loop-v.v (i.tried.may_be c.loop-v-test.true)) in
+    let ready = subst₂ (Ready a) (sym values) (sym unset) (set_ready o c.loop-v.v (sym c.may_be.ensures ∙ c.if-not-may_be.false)) in
     let fewer : opens c.settle_group.new.unset (length (entries a)) ≤ c.args.left - 1 =
     omega (arith, ap (λ (x : List ℕ). opens x (length (entries a))) unset, opens_fewer o, c.requires.architecture_bound) in
     (omega (arith, c.decreases, c.if-left-eq0.false), (c.requires.prepared, (c.requires.grouped, (ready, (fewer, i.work)))))
 
--- `Searched::Tables => return Searched::Tables`
+-- `Found::Tables => return Found::Tables`
 pub returns-in-Tables-clause-finds : goal.returns-in-Tables-clause-finds
 returns-in-Tables-clause-finds t c =
     let o = opened c.requires.prepared c.requires.grouped.0 c.requires.ready c.in-Needs.ensures.explored_says in
@@ -81,7 +101,7 @@ returns-in-Tables-clause-finds t c =
     let unset = c.settle_group.ensures.unset_after ∙ marked o c.requires.grouped.1 0 c.loop-v.unset i.unset_same in
     found_wider s o c.loop-v.v _ (subst₂ (λ (x y : List ℕ). Found s x y c.search-found.new.values) values unset c.in-Tables.ensures.finds)
 
--- `while v < 256`
+-- `for v in 0..256usize`
 pub loop-v-preserved : goal.loop-v-preserved
 loop-v-preserved t c =
     let o = opened c.requires.prepared c.requires.grouped.0 c.requires.ready c.in-Needs.ensures.explored_says in
@@ -92,7 +112,7 @@ loop-v-preserved t c =
     let unset = c.settle_group.ensures.unset_after ∙ marked o c.requires.grouped.1 0 c.loop-v.unset i.unset_same in
     let r = c.in-Nothing.ensures.finds in
     record {
-      tried = trying_more _ _ _ _ c.next_value-v-in-loop-v.ensures i.tried (subst₂ (NoChoice s) values unset r.none_keeps);
+      tried = trying_more _ _ _ i.tried (subst₂ (NoChoice s) values unset r.none_keeps);
       values_same = but_settled s.architecture l (group_value s.architecture l c.loop-v.v) _ c.args.values.now (r.same_values ∙ values);
       unset_same = but_settled s.architecture l (λ i. 0) _ c.args.unset.now (r.same_unset ∙ unset);
       work = c.search-found.ensures.work_2;
@@ -112,7 +132,7 @@ settle_group-requires-in-Needs-clause-l_lt_n t c =
     let o = opened c.requires.prepared c.requires.grouped.0 c.requires.ready c.in-Needs.ensures.explored_says in
     (omega (arith, c.requires.grouped.1, o.inside), leads_word o)
 
--- `Searched::Nothing`: each value was tried, and the group is opened again
+-- `Found::Nothing`: each value was tried, and the group is opened again
 pub returns-after-loop-v-clause-finds : goal.returns-after-loop-v-clause-finds
 returns-after-loop-v-clause-finds t c =
     let o = opened c.requires.prepared c.requires.grouped.0 c.requires.ready c.in-Needs.ensures.explored_says in
@@ -123,7 +143,3 @@ returns-after-loop-v-clause-finds t c =
       same_values = settled.values_after ∙ put o c.requires.grouped.1 0 c.loop-v.values i.values_same ∙ values_back o;
       same_unset = settled.unset_after ∙ marked o c.requires.grouped.1 1 c.loop-v.unset i.unset_same ∙ unset_back o;
     }
-
--- `Searched::Nothing`
-pub returns-after-loop-v-clause-work_2 : goal.returns-after-loop-v-clause-work_2
-returns-after-loop-v-clause-work_2 t c = c.loop-v.invariant.work

@@ -1,6 +1,5 @@
 -- `search::search`: its measure is `left`, the count of entries still open. The loop's invariant: with each lower value at the leader l no choice
 -- that completes the partial one keeps the sheet, and but for the group of l it is that of the entry.
-use Rattle.std.proofs.Common.{◌-◌}
 use Rattle.architecture.specs.Struct.{architecture_of}
 use Rattle.sheet.specs.Struct.{sheet_of}
 use Rattle.choice.specs.Kinds.{kind_of}
@@ -24,6 +23,3 @@ invariant-loop-v l =
       unset_same : ButGroup a l.l l.unset l.fn.unset;
       work : Work l.numbers l.stack l.waiting l.targets l.steps;
     }
-
-abbrev pub decreases-loop-v : goal.decreases-loop-v
-decreases-loop-v l = 256 - l.v

@@ -1,0 +1,21 @@
+-- `listing::put_processes`: in each turn the next process goes behind what was written.
+use native.Mathlib.Omega.{arith}
+use Rattle.architecture.specs.Struct.{processes_of, entries_of}
+use Rattle.append.proofs.Appending.{appending_none, appending_next, appending_room, appending_all}
+use Rattle.text.proofs.RowTexts.{processes_open, processes_none}
+use Rattle.listing.specs.Listing.{process_text}
+use Rattle.listing.proofs.put_processes.Goals as goal
+
+pub loop-i-init : goal.loop-i-init
+unfolding processes_of entries_of
+loop-i-init c = appending_none _ _ _
+
+pub put_process-at-requires-clause-i_in_bounds : goal.put_process-at-requires-clause-i_in_bounds
+put_process-at-requires-clause-i_in_bounds c =
+    appending_room c.loop-i.invariant c.requires.a_in_bounds (processes_open (λ j p at. process_text j p) c.args.a c.loop-i.i c.loop-i-test.true)
+
+pub loop-i-preserved : goal.loop-i-preserved
+loop-i-preserved c = appending_next c.loop-i.invariant (processes_open (λ j p at. process_text j p) c.args.a c.loop-i.i c.loop-i-test.true) c.put_process-at.ensures
+
+pub returns : goal.returns
+returns c = appending_all (rw (processes_none (λ j p at. process_text j p) c.args.a c.loop-i.i (omega arith)) at c.loop-i.invariant)

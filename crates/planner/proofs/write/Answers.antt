@@ -1,0 +1,20 @@
+-- The sheet is read, and then the book written.
+use Rattle.std.proofs.lemmas.Result.{err_from_is_err_and}
+use Rattle.std.proofs.Common.{refl}
+use Rattle.model.specs.Reading.{◌then◌}
+use Rattle.model.specs.Calls.{write_of, written, wrote}
+use Rattle.sheet.proofs.AnswersOfReading.{read_refused, read_proper, read_is_proper, architecture_proper}
+use Rattle.planner.proofs.write.Goals as goal
+
+pub returns-in_err-read : goal.returns-in_err-read
+unfolding write_of written ◌then◌ wrote
+returns-in_err-read c =
+    let p = err_from_is_err_and c.from_residual.result c.from_residual.ensures.1 in
+    rw (p.1, p.2, read_refused c.args.sheet.now _ c.in_err-read.ensures.result_value) (record { value = refl; book_after = refl })
+
+pub write_for-requires : goal.write_for-requires
+write_for-requires c = architecture_proper _ (read_is_proper c.args.sheet.now _ c.in_ok-read.ensures.result_value c.in_ok-read.ensures.arrays)
+
+pub returns : goal.returns
+unfolding write_of written ◌then◌
+returns c = rw (read_proper c.args.sheet.now _ c.in_ok-read.ensures.result_value) c.write_for.ensures
