@@ -1,14 +1,17 @@
 -- The words of a choice's entries: what they say, and the next row or process among them.
 use mathlib.Core.Path.{◌≡◌, refl, ap, ap₂, ◌∙◌}
+use mathlib.Core.Bool.{false}
 use mathlib.Core.List.{List, [], ◌∷◌, map}
 use Prim.Native.Nat.{ℕ, suc, ◌+◌, ◌-◌, ◌*◌, ◌/◌, ◌%◌, ◌^◌, ◌<◌, ◌≤◌}
+use native.Mathlib.Decide.{ℕ_discrete}
 use native.Mathlib.Omega.{arith}
 use lib.ListN.{length, drop}
-use borrow.Author.Tests.{eq-eqb, ne_eqb}
-use Rattle.model.specs.Mask.{if, count}
+use lib.Bits.{bit_and, and_le_r}
+use borrow.Author.Tests.{eq-eqb, ne_eqb, le-ltb}
+use Rattle.model.specs.Mask.{if, within, count}
 use Rattle.model.specs.Sheet.{Process}
 use Rattle.model.specs.Compose.{row_length}
-use Rattle.model.specs.Choice.{Entry, output, next, row, times, rows, entries}
+use Rattle.model.specs.Choice.{Entry, output, next, row, times, rows, entries, may}
 use Rattle.architecture.specs.declared.Architecture.{Architecture}
 use Rattle.architecture.specs.Struct.{IsProper, architecture_of, process_in, processes_in}
 use Rattle.architecture.proofs.ProcessesOfArrays.{process_next, processes_end, entries_are, start_few}
@@ -24,6 +27,14 @@ kind_back (next b) = let e : (b * 2 + 1) / 2 ≡ b = omega arith in rw (ne_eqb (
 pub kinds_back : (es : List Entry) → map kind_of (map kind_code es) ≡ es
 kinds_back [] = refl
 kinds_back (e ∷ es) = ap₂ (λ (x : Entry) (xs : List Entry). x ∷ xs) (kind_back e) (kinds_back es)
+
+-- an entry has no value behind half its word
+pub none_from : (kind v : ℕ) → kind / 2 + 1 ≤ v → may (kind_of kind) v ≡ false
+unfolding kind_of if may within
+none_from kind v h = elim (ℕ_discrete (kind % 2) 0) [
+  | yes e ↦ rw (eq-eqb (kind % 2) 0 e) (ne_eqb (bit_and v (kind / 2)) v (λ g. omega (arith, and_le_r v (kind / 2))))
+  | no ne ↦ rw (ne_eqb (kind % 2) 0 ne) (le-ltb v (kind / 2) (omega arith))
+]
 
 -- ---- what comes next
 -- the words of a row

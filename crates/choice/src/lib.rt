@@ -2,7 +2,7 @@
 // An even word is an output's and an odd one a next state's, and no enum: `kind_of`, of which the contracts here speak, has this form.
 #![tactic(auto)]
 
-ghost use Rattle.std.specs.Prelude.{◌≡◌, not, ◌+◌, ◌*◌, ◌<◌, ◌≤◌, length};
+ghost use Rattle.std.specs.Prelude.{◌≡◌, false, not, ℕ, ◌+◌, ◌*◌, ◌<◌, ◌≤◌, length};
 ghost use Rattle.model.specs.Choice.{entries, may, fits};
 ghost use Rattle.architecture.specs.Struct.{IsProper, architecture_of};
 ghost use Rattle.append.specs.Appends.{Appends};
@@ -77,6 +77,14 @@ pub fn may_be(kind: u16, value: u8) -> bool
     } else {
         value < most
     }
+}
+
+// From this value on an entry with this word may have none.
+pub fn values_end(kind: u16) -> usize
+    ensures few { result ≤ 256 }
+    ensures none_behind { (v : ℕ) → result ≤ v → v < 256 → may (kind_of kind) v ≡ false }
+{
+    usize::min(kind as usize / 2 + 1, 256)
 }
 
 // One of the first n entries has a value that it may not have.

@@ -21,7 +21,9 @@ fn showing(a: Architecture, desk: Desk, t: Composed) -> Desk
 {
     let n = a.processes;
     let mut states = desk.states;
-    states[..n].copy_from_slice(&t.states[..n]);
+    for i in 0..n {
+        states[i] = t.process_state(i);
+    }
     Desk {
         states,
         environment: t.environment,

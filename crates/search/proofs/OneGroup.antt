@@ -3,7 +3,7 @@ use mathlib.Core.Path.{◌≡◌, refl, sym, ap, ◌∙◌, subst}
 use mathlib.Core.Bool.{true, false, true≢false}
 use mathlib.Core.List.{List}
 use Prim.Native.Nat.{ℕ, zero, suc, ◌+◌, ◌<◌, ◌≤◌}
-use native.Mathlib.Decide.{ℕ_discrete}
+use native.Mathlib.Decide.{ℕ_discrete, dec_lt}
 use native.Mathlib.Omega.{arith}
 use lib.ListN.{length, get_or, take, drop, get_or-map}
 use lib.Seq.{get_or-take, get_or-drop}
@@ -37,6 +37,13 @@ module _ (e : Entry) (P : ℕ → Type 0) (v : ℕ) (T : Trying e P v) where
 
   pub trying_not : may e v ≡ false → Trying e P (v + 1)
   trying_not f = below_more (λ u. may e u ≡ true → P u) v T (λ m. absurd (true≢false (sym m ∙ f)))
+
+  -- nor may it have a value behind them
+  pub trying_on : ((u : ℕ) → v ≤ u → u < 256 → may e u ≡ false) → Trying e P 256
+  trying_on none u small m = elim (dec_lt u v) [
+    | yes h ↦ T u h m
+    | no ne ↦ absurd (true≢false (sym m ∙ none u (omega arith) small))
+  ]
 
 -- ---- the entries of a sheet
 module _ (a : Architecture) (fixed : List ℕ) (K : Kinds a fixed) (k : ℕ) (hk : k < length (entries a)) where

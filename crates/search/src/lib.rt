@@ -93,7 +93,8 @@ pub fn search(
             }
             let l = groups[k] as usize;
             let kind = fixed[6144 + l];
-            for v in 0..256usize {
+            let end = choice::values_end(kind);
+            for v in 0..end {
                 if !choice::may_be(kind, v as u8) {
                     continue;
                 }

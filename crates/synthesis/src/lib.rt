@@ -84,7 +84,9 @@ pub fn find_for(sheet: Sheet, book: &mut [u8], annotation: &mut [u16]) -> Result
     ensures book_after { book.new ≡ (find_in (room_to_find (sheet_of sheet) book.old annotation.old) book.old annotation.old).book }
     ensures annotation_after { annotation.new ≡ (find_in (room_to_find (sheet_of sheet) book.old annotation.old) book.old annotation.old).annotation }
 {
-    check_room(sheet, book, annotation)?;
+    if let Err(refusal) = check_room(sheet, book, annotation) {
+        return Err(refusal);
+    }
     let mut witness = [0u8; 272];
     match first_tables(&mut witness, sheet) {
         Found::Nothing => Ok(Found::Nothing),

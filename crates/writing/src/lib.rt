@@ -55,13 +55,24 @@ fn put_states(sheet: &mut [u8], at: usize, u: Automaton) -> usize
     put_all(sheet, after_mark, &[u.states, u.initial.0, low, high])
 }
 
+// The records before AU, byte by byte: between two buffers that are lent, put_all calls memmove, which the library asks of no linker.
+fn put_front(sheet: &mut [u8], front: &[u8]) -> usize
+    requires { length front.now ≤ length sheet.old }
+    ensures { Appends sheet.old 0 front.now result sheet.new }
+{
+    for k in 0..front.len() {
+        sheet[k] = front[k];
+    }
+    front.len()
+}
+
 // A whole sheet: these bytes, which are the records before AU, then AU, every ED and EX, and EN.
 pub fn put_sheet(sheet: &mut [u8], front: &[u8], u: Automaton) -> usize
     requires arrays { Arrays u }
     requires mark_en_in_bounds { length (front.now ++ automaton_bytes (automaton_of u) ++ mark_en) ≤ length sheet.old }
     ensures { Appends sheet.old 0 (front.now ++ automaton_bytes (automaton_of u) ++ mark_en) result sheet.new }
 {
-    let after_front = put_all(sheet, 0, front);
+    let after_front = put_front(sheet, front);
     let after_states = put_states(sheet, after_front, u);
     let after_edges = put_edges(sheet, after_states, u);
     put_all(sheet, after_edges, &EN)

@@ -15,7 +15,7 @@ use Rattle.ties.specs.Groups.{set_group}
 use Rattle.exploration.specs.Prepared.{Prepared}
 use Rattle.search.specs.Choices.{Grouped, group_at, Ready, opens}
 use Rattle.search.specs.Answers.{NoChoice, Found}
-use Rattle.search.proofs.OneGroup.{trying_more, trying_not, chosen_at, ButGroup, but_settled, but_long}
+use Rattle.search.proofs.OneGroup.{trying_more, trying_not, trying_on, chosen_at, ButGroup, but_settled, but_long}
 use Rattle.search.proofs.OneGroup.{Opened, opened_of, words_are, marks_are, leads_word, opens_fewer, values_back, unset_back, Put}
 use Rattle.search.proofs.OneGroup.{set_ready, found_wider, all_tried}
 use Rattle.search.proofs.+search.Goals as goal
@@ -101,7 +101,7 @@ returns-in-Tables-clause-finds t c =
     let unset = c.settle_group.ensures.unset_after ∙ marked o c.requires.grouped.1 0 c.loop-v.unset i.unset_same in
     found_wider s o c.loop-v.v _ (subst₂ (λ (x y : List ℕ). Found s x y c.search-found.new.values) values unset c.in-Tables.ensures.finds)
 
--- `for v in 0..256usize`
+-- `for v in 0..end`
 pub loop-v-preserved : goal.loop-v-preserved
 loop-v-preserved t c =
     let o = opened c.requires.prepared c.requires.grouped.0 c.requires.ready c.in-Needs.ensures.explored_says in
@@ -132,14 +132,14 @@ settle_group-requires-in-Needs-clause-l_lt_n t c =
     let o = opened c.requires.prepared c.requires.grouped.0 c.requires.ready c.in-Needs.ensures.explored_says in
     (omega (arith, c.requires.grouped.1, o.inside), leads_word o)
 
--- `Found::Nothing`: each value was tried, and the group is opened again
+-- `Found::Nothing`: each value that the entry may have was tried, and the group is opened again
 pub returns-after-loop-v-clause-finds : goal.returns-after-loop-v-clause-finds
 returns-after-loop-v-clause-finds t c =
     let o = opened c.requires.prepared c.requires.grouped.0 c.requires.ready c.in-Needs.ensures.explored_says in
     let i = c.loop-v.invariant in
     let settled = c.settle_group-in-Needs.ensures in
     record {
-      none_keeps = all_tried (sheet_of c.args.sheet) o c.requires.prepared.proper.proper c.loop-v.v (omega (arith, c.loop-v-test.false)) i.tried;
+      none_keeps = all_tried (sheet_of c.args.sheet) o c.requires.prepared.proper.proper 256 (omega arith) (trying_on _ _ _ i.tried (λ u h small. c.values_end-end.ensures.none_behind u (omega (arith, h, c.loop-v-test.false)) small));
       same_values = settled.values_after ∙ put o c.requires.grouped.1 0 c.loop-v.values i.values_same ∙ values_back o;
       same_unset = settled.unset_after ∙ marked o c.requires.grouped.1 1 c.loop-v.unset i.unset_same ∙ unset_back o;
     }

@@ -25,4 +25,4 @@ put_all-requires c = omega (arith, parts c.args.front.now c.args.u)
 pub returns : goal.returns
 unfolding automaton_bytes automaton_of
 returns c =
-    append_more (append_more c.put_all-after_front.ensures (append_more c.put_states-after_states.ensures c.put_edges-after_edges.ensures)) c.put_all.ensures
+    append_more (append_more c.put_front-after_front.ensures (append_more c.put_states-after_states.ensures c.put_edges-after_edges.ensures)) c.put_all.ensures
